@@ -1,7 +1,7 @@
 -- An exit remembers: what the winner's row remembered of a vote passes to the voted round and the lock.
 use mathlib.Core.Path.{_≡_, _∙_, ap, sym, subst}
 use native.Mathlib.Omega.{arith}
-use Prim.Native.Nat.{ℕ, _≤_}
+use Prim.Native.Nat.{_≤_}
 use Rattle.safety.specs.Ranks.{Rank, _≼_, rank}
 use Rattle.safety.specs.Runs.{Run, Fallback}
 use Rattle.safety.specs.Certificates.{By-winner}

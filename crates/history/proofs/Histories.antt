@@ -5,7 +5,7 @@ use Rattle.safety.specs.Runs.{Run}
 use Rattle.safety.specs.Theorems.{One-chain}
 use Rattle.safety.proofs.Commits.{one-chain}
 use Rattle.history.specs.States.{State}
-use Rattle.history.specs.Moves.{Move, Moves, History, start, _then_}
+use Rattle.history.specs.Moves.{Move, History, start, _then_}
 use Rattle.history.specs.Theorems.{History-keeps-the-rules, By-moves, Moves-keep-the-rules}
 use Rattle.history.proofs.Lists.{in-either, before-either}
 use Rattle.history.proofs.Memory.{Invariant}

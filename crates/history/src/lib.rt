@@ -3,7 +3,6 @@
 ghost use Rattle.safety.specs.Theorems.{One-chain};
 ghost use Rattle.history.specs.Theorems.{
   History-keeps-the-rules,
-  Honest-make-moves,
   By-moves,
   Moves-keep-the-rules,
   Some-run-moves,

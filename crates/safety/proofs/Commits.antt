@@ -30,20 +30,20 @@ module _ {Block : Type 0} (r : Run Block) (lawful : Lawful r) where
       ]
 
   -- by induction on a bound of the round of c
-  stands : {last : Block} → Three-chain r last → (n : ℕ) {c : Block} → round c ≤ n → Official r c → rank r (grandparent r last) ≼ rank r c →
+  extends-first : {last : Block} → Three-chain r last → (n : ℕ) {c : Block} → round c ≤ n → Official r c → rank r (grandparent r last) ≼ rank r c →
       Extends r c (grandparent r last)
-  stands three zero {c} bound oc le =
+  extends-first three zero {c} bound oc le =
       absurd (omega (arith, round-positive r lawful (above-certificate (three .certificate-first) oc le)))
-  stands three (suc n) {c} bound oc le =
+  extends-first three (suc n) {c} bound oc le =
       let q = above-certificate (three .certificate-first) oc le in
       elim (extends-or-climbs r lawful three oc q le) [
-        | inl climbs ↦ by-parent (stands three n (omega (arith, votable r lawful q .round-follows)) (parent-official r lawful oc) climbs)
+        | inl climbs ↦ by-parent (extends-first three n (omega (arith, votable r lawful q .round-follows)) (parent-official r lawful oc) climbs)
         | inr extends ↦ extends
       ]
 
-  three-stand : (last : Block) → Official r last → view last ≡ view (grandparent r last) → view (parent last) ≡ view (grandparent r last) →
+  first-is-final : (last : Block) → Official r last → view last ≡ view (grandparent r last) → view (parent last) ≡ view (grandparent r last) →
       {c : Block} → Official r c → rank r (grandparent r last) ≼ rank r c → Extends r c (grandparent r last)
-  three-stand last o vl vm {c} oc le =
+  first-is-final last o vl vm {c} oc le =
       let om = parent-official r lawful o in
       let of = parent-official r lawful om in
       elim (of .certified) [
@@ -58,14 +58,14 @@ module _ {Block : Type 0} (r : Run Block) (lawful : Lawful r) where
               view-last = vl;
               view-mid = vm;
             } in
-            stands three (round c) (omega arith) oc le
+            extends-first three (round c) (omega arith) oc le
       ]
 
 pub commits-are-final : (Block : Type 0) → Commits-are-final Block Lawful
 commits-are-final Block r lawful b c k oc =
     subst (λ x. r .view (k .last) ≡ r .view x → r .view (r .parent (k .last)) ≡ r .view x → rank r x ≼ rank r c → Extends r c x)
     (k .grandparent)
-    (λ vl vm le. three-stand r lawful (k .last) (k .official) vl vm oc le)
+    (λ vl vm le. first-is-final r lawful (k .last) (k .official) vl vm oc le)
     (k .view-last)
     (k .view-between)
 
