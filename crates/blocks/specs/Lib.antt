@@ -1,0 +1,5 @@
+pub mod Layout
+pub mod Limits
+pub mod Ranks
+pub mod Statements
+pub mod Heads
