@@ -1,0 +1,2 @@
+pub mod EntrySteps
+pub mod Reading
