@@ -1,10 +1,10 @@
 -- A message that is written field after field.
 use mathlib.Core.Bool.{true, cond}
-use mathlib.Core.List.{List, [], _∷_, _++_}
+use mathlib.Core.List.{List, [], _++_}
 use mathlib.Core.Path.{_≡_, refl, sym, _∙_, ap}
 use Prim.Native.Nat.{ℕ, _+_, _≤_}
 use native.Mathlib.Omega.{arith}
-use lib.ListN.{length, take, drop}
+use lib.ListN.{length, drop}
 use Rattle.std.proofs.shelf.Lists.{append-assoc, append-nil, length-append, length-drop, take-at, drop-at, drop-drop, drop-all}
 use Rattle.std.proofs.shelf.Tests.{le-leb}
 use Rattle.blocks.specs.Layout.{fits, pasted, overlay}

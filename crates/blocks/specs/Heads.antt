@@ -1,8 +1,8 @@
 -- A block: a head of 45 bytes, which is kind (1), height (1), proposer (1), view (4), round (4), parent's id (32), payload length (2),
 -- and a payload of 0 to 192 bytes. Its id is the SHA-256 of head and payload.
 use mathlib.Core.Bool.{Bool, cond, _&&_}
-use mathlib.Core.List.{List, [], _∷_, _++_}
-use Prim.Native.Nat.{ℕ, _-_}
+use mathlib.Core.List.{List, _∷_, _++_}
+use Prim.Native.Nat.{ℕ, _≤_}
 use lib.Dec.{eqb, ltb, leb}
 use lib.ListN.{length, getD}
 use Rattle.std.specs.shelf.Lists.{between}
@@ -14,7 +14,7 @@ use Rattle.blocks.specs.declared.statement.Statement.{Statement}
 use Rattle.blocks.specs.declared.head.Head.{Head}
 use Rattle.blocks.specs.Limits.{headLength, payloadMost}
 use Rattle.blocks.specs.Ranks.{kindNumber, kindOf, view, round}
-use Rattle.blocks.specs.Statements.{heightFits}
+use Rattle.blocks.specs.Statements.{heightFits, FieldsFit}
 
 abbrev pub headBytes : Head → List ℕ
 headBytes h =
@@ -43,3 +43,13 @@ readHead n bs = cond (eqb (length bs) headLength && headFormed n bs) (Some (head
 -- what is said of the block with this head and id
 abbrev pub said : Head → List ℕ → Statement
 said h i = record { kind = h .kind; height = h .height; proposer = h .proposer; view = h .view; round = h .round; id = i }
+
+-- the id of the block with this head and payload
+abbrev pub blockId : Head → List ℕ → List ℕ
+blockId h payload = digest (headBytes h ++ payload)
+
+-- a member's block can have this head, among n members: its fields fit as those of a statement, with the parent's id, and the
+-- payload is not too long
+pub record HeadFits (n : ℕ) (h : Head) : Type 0 where
+  pub fields : FieldsFit n (said h (h .parent))
+  pub payloads : h .payload ≤ payloadMost

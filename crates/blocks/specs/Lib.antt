@@ -3,3 +3,5 @@ pub mod Limits
 pub mod Ranks
 pub mod Statements
 pub mod Heads
+pub mod RoundTrips
+pub mod Examples

@@ -1,16 +1,17 @@
 -- A statement: what a vote says of a block, in 43 bytes: kind (1), height (1), proposer (1), view (4), round (4), id (32).
-use mathlib.Core.Bool.{Bool, cond, _&&_}
-use mathlib.Core.List.{List, [], _∷_, _++_}
-use Prim.Native.Nat.{ℕ, _-_}
+use mathlib.Core.Bool.{Bool, true, cond, _&&_}
+use mathlib.Core.List.{List, _∷_, _++_}
+use mathlib.Core.Logic.{_⊎_}
+use mathlib.Core.Path.{_≡_}
+use Prim.Native.Nat.{ℕ, _^_, _<_, _≤_}
 use lib.Dec.{eqb, ltb, leb}
-use lib.ListN.{length, getD, take, drop, replicate}
+use lib.ListN.{length, getD, replicate}
 use Rattle.std.specs.shelf.Lists.{between}
 use Rattle.std.specs.shelf.Text.{sameBytes}
 use Rattle.std.specs.declared.option.Option.{Option}
 use Rattle.std.specs.declared.option.Option.the-variants.{Some, None}
 use Rattle.digest.specs.Bytes.{bytes32, number32}
-use Rattle.blocks.specs.declared.rank.Kind.{Kind}
-use Rattle.blocks.specs.declared.rank.Kind.the-variants.{Regular, Fallback}
+use Rattle.blocks.specs.declared.rank.Kind.the-variants.{Regular}
 use Rattle.blocks.specs.declared.rank.Rank.{Rank}
 use Rattle.blocks.specs.declared.statement.Statement.{Statement}
 use Rattle.blocks.specs.Limits.{idLength, statementLength}
@@ -50,3 +51,17 @@ statementFormed n bs =
 
 abbrev pub readStatement : ℕ → List ℕ → Option Statement
 readStatement n bs = cond (eqb (length bs) statementLength && statementFormed n bs) (Some (statementOf bs)) None
+
+-- a member's block can have these fields, among n members: it is of a member, the height fits the kind, view and round have
+-- room in four bytes, and the id in its 32
+pub record FieldsFit (n : ℕ) (s : Statement) : Type 0 where
+  pub lowest : 1 ≤ s .proposer
+  pub highest : s .proposer ≤ n
+  pub heights : heightFits (kindNumber (s .kind)) (s .height) ≡ true
+  pub views : s .view .0 < 2 ^ 32
+  pub rounds : s .round .0 < 2 ^ 32
+  pub ids : length (s .id) ≡ idLength
+
+-- what can be said among n members: of genesis, or of a member's block
+abbrev pub StatementFits : ℕ → Statement → Type 0
+StatementFits n s = (s ≡ genesis) ⊎ FieldsFit n s

@@ -1,9 +1,8 @@
 // The heads of blocks.
-ghost use mathlib.Core.Bool.{Bool};
 ghost use mathlib.Core.Path.{_≡_};
 ghost use lib.ListN.{length};
-ghost use Rattle.blocks.specs.Heads.{headBytes, headFormed, readHead, said};
-use crate::layout::put;
+ghost use Rattle.blocks.specs.Heads.{blockId, headBytes, headFormed, readHead, said};
+use crate::layout::front_and_length;
 use crate::limits::HEAD_BYTES;
 use crate::limits::ID_BYTES;
 use crate::limits::PAYLOAD_MOST;
@@ -14,6 +13,7 @@ use crate::statement::Statement;
 use crate::statement::height_fits;
 use crate::statement::kind_of;
 use crate::statement::number_at;
+use digest::Sha256;
 
 #[derive(Clone, Copy)]
 pub struct Head {
@@ -49,17 +49,12 @@ impl Head {
         })
     }
 
-    // The head's bytes.
+    // The head's bytes: those of a statement with the parent's id, and the payload's length.
     pub fn bytes(&self) -> [u8; 45]
         ensures { λ r. ⌜ r ≡ headBytes (now (self .entry)) ⌝ }
     {
-        let mut out = [0; HEAD_BYTES];
-        let at = put(&mut out, 0, &[self.kind.byte(), self.height, self.proposer]);
-        let at = put(&mut out, at, &self.view.0.to_be_bytes());
-        let at = put(&mut out, at, &self.round.0.to_be_bytes());
-        let at = put(&mut out, at, &self.parent);
-        put(&mut out, at, &self.payload.to_be_bytes());
-        out
+        let front = self.said(self.parent).bytes();
+        front_and_length(&front, self.payload)
     }
 
     // What is said of the block that has this head and this id.
@@ -75,6 +70,16 @@ impl Head {
             id,
         }
     }
+}
+
+// The id of the block with this head and payload.
+pub fn block_id(head: &Head, payload: &[u8]) -> [u8; 32]
+    ensures { λ r. ⌜ r ≡ blockId (now (head .entry)) (now (payload .entry)) ⌝ }
+{
+    let mut hasher = Sha256::new();
+    hasher.update(&head.bytes());
+    hasher.update(payload);
+    hasher.finish()
 }
 
 // Whether 45 bytes have the form of a head among n members.

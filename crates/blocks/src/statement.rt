@@ -1,13 +1,12 @@
 // Statements: what a vote says of a block, and what a certificate proves of it.
 ghost use mathlib.Core.Path.{_≡_};
-ghost use mathlib.Core.Bool.{Bool};
-ghost use Prim.Native.Nat.{ℕ, _+_, _≤_};
+ghost use Prim.Native.Nat.{_+_, _≤_};
 ghost use lib.ListN.{length, replicate};
 ghost use Rattle.std.specs.shelf.Text.{sameBytes};
 ghost use Rattle.digest.specs.Bytes.{number32};
 ghost use Rattle.blocks.specs.Ranks.{kindOf};
 ghost use Rattle.blocks.specs.Statements.{rankOf, heightFits, genesis, statementBytes, statementFormed, readStatement};
-use crate::layout::put;
+use crate::layout::front;
 use crate::limits::ID_BYTES;
 use crate::limits::STATEMENT_BYTES;
 use crate::rank::Kind;
@@ -103,12 +102,8 @@ impl Statement {
     pub fn bytes(&self) -> [u8; 43]
         ensures { λ r. ⌜ r ≡ statementBytes (now (self .entry)) ⌝ }
     {
-        let mut out = [0; STATEMENT_BYTES];
-        let at = put(&mut out, 0, &[self.kind.byte(), self.height, self.proposer]);
-        let at = put(&mut out, at, &self.view.0.to_be_bytes());
-        let at = put(&mut out, at, &self.round.0.to_be_bytes());
-        put(&mut out, at, &self.id);
-        out
+        let first = [self.kind.byte(), self.height, self.proposer];
+        front(first, self.view.0, self.round.0, &self.id)
     }
 }
 
