@@ -5,3 +5,4 @@ pub mod Certificates
 pub mod Messages
 pub mod Told
 pub mod Layouts
+pub mod RoundTrips

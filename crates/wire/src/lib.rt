@@ -2,6 +2,7 @@
 pub mod certificate;
 pub mod entries;
 pub mod form;
+pub mod laws;
 pub mod limits;
 pub mod message;
 pub mod parts;
