@@ -1,0 +1,4 @@
+pub mod Overlays
+pub mod RoundTrips
+pub mod Ordered
+pub mod Examples

@@ -1,0 +1,7 @@
+pub mod Layout
+pub mod Limits
+pub mod Ranks
+pub mod Statements
+pub mod Heads
+pub mod RoundTrips
+pub mod Examples

@@ -1,0 +1,5 @@
+pub mod Shares
+pub mod Polynomials
+pub mod Interpolation
+pub mod Drawing
+pub mod Examples

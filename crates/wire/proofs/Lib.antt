@@ -1,0 +1,6 @@
+pub mod EntrySteps
+pub mod Reading
+pub mod EntryTrips
+pub mod Passing
+pub mod CertificateTrips
+pub mod MessageTrips

@@ -1,0 +1,9 @@
+// The wire: certificates and the seven messages, read and written.
+pub mod certificate;
+pub mod entries;
+pub mod form;
+pub mod laws;
+pub mod limits;
+pub mod message;
+pub mod parts;
+pub mod reader;
