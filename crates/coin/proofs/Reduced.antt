@@ -1,12 +1,11 @@
 -- The shares after one step of the interpolation.
-use mathlib.Core.Path.{_≡_, refl, sym, ap, subst, _∙_}
+use mathlib.Core.Path.{_≡_, sym, ap, _∙_}
 use mathlib.Core.List.{List, [], _∷_, _++_, map}
 use Prim.Native.Nat.{ℕ, _+_, _*_, _%_, _<_, _≤_}
 use native.Mathlib.Nat.{le-of-lt}
 use lib.ListN.{length, getD, set, take, drop}
-use Rattle.std.specs.shelf.Lists.{All}
 use Rattle.std.proofs.shelf.Lists.{append-nil, length-map, length-take-le, drop-more, drop-all, take-all, getD-at, getD-default}
-use Rattle.std.proofs.shelf.Elements.{all-getD, all-map, all-weaker}
+use Rattle.std.proofs.shelf.Elements.{all-map}
 use Rattle.std.proofs.shelf.Edits.{map-over-more}
 use Rattle.coin.specs.declared.shares.Share.{Share}
 use Rattle.coin.specs.Shares.{nobody, Other, Apart}

@@ -9,6 +9,8 @@ ghost use Rattle.coin.specs.Shares.{Dealing, Member, WellFormed, Dealt, Answer
 mod drawn_list;
 mod polynomial;
 mod shares;
+#[cfg(test)]
+mod tests;
 
 pub use drawn_list::DrawnList;
 pub use drawn_list::DrawnListCoin;
@@ -16,6 +18,8 @@ pub use polynomial::Polynomial;
 pub use polynomial::PolynomialCoin;
 pub use polynomial::dealt;
 pub use shares::ElectError;
+pub use shares::ElectErrorDebug;
+pub use shares::ElectErrorPartialEq;
 pub use shares::Share;
 
 /// A rule that elects a member from the shares of one view.

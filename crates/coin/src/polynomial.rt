@@ -372,8 +372,8 @@ fn value_at(coefficients: &[u16], x: u8) -> Option<u16>
             if *constant > GREATEST {
                 return None;
             }
-            let slope = value_at(rest, x)?;
-            Some(((*constant as u32 + x as u32 * slope as u32) % MODULUS) as u16)
+            let higher = value_at(rest, x)?;
+            Some(((*constant as u32 + x as u32 * higher as u32) % MODULUS) as u16)
         }
     }
 }

@@ -31,7 +31,8 @@ impl ElectError {
         ensures { λ r. ⌜ r ≡ refusal self ⌝ }
     {
         match self {
-            ElectError::Count | ElectError::Unknown | ElectError::Repeated | ElectError::Excess => 2,
+            ElectError::Count | ElectError::Unknown | ElectError::Repeated | ElectError::Excess =>
+                2,
         }
     }
 }
