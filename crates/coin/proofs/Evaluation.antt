@@ -10,10 +10,10 @@ use Rattle.coin.specs.Shares.{size, Member}
 use Rattle.coin.specs.Polynomials.{eval, Residues, Evaluated, Handed, Handed-is-sound}
 use Rattle.coin.proofs.Algebra.{reduce-right}
 
-pub horner : (c : ℕ) (cs xs : List ℕ) (x v : ℕ) → xs ≡ c ∷ cs → c ≤ 256 → Residues cs × (v ≡ eval cs x % 257) → Residues xs × ((c + x * v) % 257 ≡ eval xs x % 257)
-horner c cs xs x v e h rest =
+pub horner : (c : ℕ) (cs xs : List ℕ) (x v r : ℕ) → r ≡ (c + x * v) % 257 → xs ≡ c ∷ cs → c ≤ 256 → Residues cs × (v ≡ eval cs x % 257) → Residues xs × (r ≡ eval xs x % 257)
+horner c cs xs x v r next e h rest =
     let reduced : x * v % 257 ≡ x * eval cs x % 257 = ap (λ y. x * y % 257) (rest .1) ∙ reduce-right x (eval cs x) in
-    let value : (c + x * v) % 257 ≡ (c + x * eval cs x) % 257 = omega arith in
+    let value : r ≡ (c + x * eval cs x) % 257 = omega arith in
     (subst Residues (sym e) (h, rest .0), value ∙ ap (λ ys. eval ys x % 257) (sym e))
 
 pub handed : (n : ℕ) (cs : List ℕ) (m : ℕ) → length cs ≡ size n → Member n m → (r : Option ℕ) → Evaluated cs m r → Handed n cs m r

@@ -9,7 +9,7 @@ use lib.ListN.{getD}
 use Rattle.std.specs.shelf.Lists.{All}
 use Rattle.coin.specs.declared.shares.Share.{Share}
 use Rattle.coin.specs.Shares.{nobody, Known, Dealing, Dealt, WellFormed, memberOf}
-use Rattle.coin.specs.Drawing.{Equal, lowest, drawnFor, drawnBy}
+use Rattle.coin.specs.Drawing.{Equal, lower, lowest, drawnFor, drawnBy}
 use Rattle.coin.proofs.Pieces.{all-both}
 
 either : (P : Share → Type 0) (b : Bool) (s t : Share) → P s → P t → P (cond b s t)
@@ -19,7 +19,7 @@ either P false s t p q = q
 -- what holds of each holds of the lowest
 lowest-has : (P : Share → Type 0) (s : Share) (ss : List Share) → P s → All P ss → P (lowest s ss)
 lowest-has P s [] p all = p
-lowest-has P s (t ∷ ts) p all = lowest-has P (cond (ltb (t .member) (s .member)) t s) ts (either P (ltb (t .member) (s .member)) t s (all .0) p) (all .1)
+lowest-has P s (t ∷ ts) p all = lowest-has P (lower s t) ts (either P (ltb (t .member) (s .member)) t s (all .0) p) (all .1)
 
 first-has : (P : Share → Type 0) (n top : ℕ) (shares : List Share) → WellFormed n top shares → All P shares → P (lowest (getD shares 0 nobody) shares)
 first-has P n top [] formed all = let e = formed .count in absurd (omega arith)

@@ -1,15 +1,16 @@
 // The polynomial coin: a view's values lie on one polynomial of degree at most f modulo 257, and its value at 0 elects the winner.
 ghost use mathlib.Core.Path.{_≡_};
 ghost use mathlib.Core.Logic.{_≢_};
-ghost use Prim.Native.Nat.{_*_, _%_, _<_, _≤_};
-ghost use lib.ListN.{length};
+ghost use Prim.Native.Nat.{_+_, _*_, _%_, _<_, _≤_};
+ghost use lib.ListN.{length, getD};
 ghost use Rattle.coin.specs.Shares.{Apart};
 ghost use Rattle.coin.specs.Polynomials.{Evaluated, Handed, Handed-is-sound, Sound, winnerOf};
-ghost use Rattle.coin.specs.Interpolation.{inverseOf, reduce, at-zero, electedBy};
+ghost use Rattle.coin.specs.Interpolation.{inverses, Inverse, reduce, from-slope, at-zero, electedBy};
 use crate::Coin;
 use crate::shares::ElectError;
 use crate::shares::Share;
 use crate::shares::examine;
+use crate::shares::is_member;
 use crate::shares::member_of;
 use crate::shares::share_count;
 
@@ -288,13 +289,18 @@ const INVERSES: [u16; 256] = [
 #[derive(Clone, Copy)]
 pub struct Polynomial;
 
+fn table_entry(place: usize) -> u16
+    requires { ⌜ place < 256 ⌝ }
+    ensures { λ r. ⌜ r ≡ getD inverses place 0 ⌝ }
+{
+    INVERSES[place]
+}
+
 fn inverse(a: u32) -> u32
     requires { ⌜ 0 < a ⌝ ∗ ⌜ a < 257 ⌝ }
-    ensures is { λ r. ⌜ r ≡ inverseOf a ⌝ }
-    ensures inverts { λ r. ⌜ a * r % 257 ≡ 1 ⌝ }
-    ensures below { λ r. ⌜ r < 257 ⌝ }
+    ensures { λ r. ⌜ Inverse a r ⌝ }
 {
-    INVERSES[a as usize - 1] as u32
+    table_entry(a as usize - 1) as u32
 }
 
 // The slope from `first` to `other`, as `other`'s share of a polynomial of one degree less.
@@ -308,6 +314,15 @@ fn reduced(first: Share, other: Share) -> Share
         member: other.member,
         value: (rise * inverse(run) % MODULUS) as u16,
     }
+}
+
+// The value at 0 of the polynomial through `first` whose slopes from there have the value `slope` at 0.
+fn from_slope(first: Share, slope: u32) -> u32
+    requires { ⌜ slope < 257 ⌝ }
+    ensures is { λ r. ⌜ r ≡ from-slope first slope ⌝ }
+    ensures below { λ r. ⌜ r < 257 ⌝ }
+{
+    (first.value as u32 + MINUS * (first.member as u32 * slope)) % MODULUS
 }
 
 // The value at 0 of the polynomial through the points, by Newton's divided differences.
@@ -325,7 +340,7 @@ fn value_at_zero(points: &mut [Share]) -> u32
         *other = reduced(first, *other);
     }
     let slope = value_at_zero(rest);
-    (first.value as u32 + MINUS * (first.member as u32 * slope)) % MODULUS
+    from_slope(first, slope)
 }
 
 // The value at 0 of the polynomial through the shares.
@@ -362,6 +377,13 @@ pub impl Coin for Polynomial as PolynomialCoin {
     }
 }
 
+// One step of Horner's rule.
+fn next_value(constant: u16, x: u8, higher: u16) -> u16
+    ensures { λ r. ⌜ r ≡ (constant + x * higher) % 257 ⌝ }
+{
+    ((constant as u32 + x as u32 * higher as u32) % MODULUS) as u16
+}
+
 // The value at x of the polynomial with these coefficients, the constant first; none where one is no residue.
 fn value_at(coefficients: &[u16], x: u8) -> Option<u16>
     ensures { λ r. ⌜ Evaluated (now (coefficients .entry)) x r ⌝ }
@@ -373,7 +395,7 @@ fn value_at(coefficients: &[u16], x: u8) -> Option<u16>
                 return None;
             }
             let higher = value_at(rest, x)?;
-            Some(((*constant as u32 + x as u32 * higher as u32) % MODULUS) as u16)
+            Some(next_value(*constant, x, higher))
         }
     }
 }
@@ -383,7 +405,10 @@ pub fn dealt(n: u8, coefficients: &[u16], member: u8) -> Option<u16>
     ensures value { λ r. ⌜ Handed n (now (coefficients .entry)) member r ⌝ }
     ensures sound { λ _. ⌜ Handed-is-sound ⌝ }
 {
-    if coefficients.len() != share_count(n) || member == 0 || member > n {
+    if coefficients.len() != share_count(n) {
+        return None;
+    }
+    if !is_member(n, member) {
         return None;
     }
     value_at(coefficients, member)

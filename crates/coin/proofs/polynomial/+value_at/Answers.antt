@@ -25,4 +25,4 @@ pub returns-in-Continue-higher : need.returns-in-Continue-higher
 returns-in-Continue-higher t c =
     let xs = c .args .coefficients .now in
     let some : 1 ≤ length xs = search needs in
-    horner (getD xs 0 0) (take (length xs - 1) (drop 1 xs)) xs (c .args .x) (c .in-Continue-higher .higher) (whole 0 xs some) (omega arith) (c .in-Continue-higher .ensures tt)
+    horner (getD xs 0 0) (take (length xs - 1) (drop 1 xs)) xs (c .args .x) (c .in-Continue-higher .higher) (c .next-value .result) (c .next-value .ensures) (whole 0 xs some) (omega arith) (c .in-Continue-higher .ensures tt)
