@@ -4,7 +4,7 @@ ghost use mathlib.Core.Logic.{_≢_};
 ghost use Prim.Native.Nat.{_+_, _*_, _%_, _<_, _≤_};
 ghost use lib.ListN.{length, getD};
 ghost use Rattle.coin.specs.Shares.{Apart};
-ghost use Rattle.coin.specs.Polynomials.{Evaluated, Handed, Handed-is-sound, Sound, winnerOf};
+ghost use Rattle.coin.specs.Polynomials.{Evaluated, Deals, Dealings-are-sound, Sound, winnerOf};
 ghost use Rattle.coin.specs.Interpolation.{inverses, Inverse, reduce, from-slope, at-zero, electedBy};
 use crate::Coin;
 use crate::shares::ElectError;
@@ -289,6 +289,7 @@ const INVERSES: [u16; 256] = [
 #[derive(Clone, Copy)]
 pub struct Polynomial;
 
+// The inverse of place + 1.
 fn table_entry(place: usize) -> u16
     requires { ⌜ place < 256 ⌝ }
     ensures { λ r. ⌜ r ≡ getD inverses place 0 ⌝ }
@@ -296,6 +297,7 @@ fn table_entry(place: usize) -> u16
     INVERSES[place]
 }
 
+// The inverse of a modulo 257.
 fn inverse(a: u32) -> u32
     requires { ⌜ 0 < a ⌝ ∗ ⌜ a < 257 ⌝ }
     ensures { λ r. ⌜ Inverse a r ⌝ }
@@ -400,16 +402,21 @@ fn value_at(coefficients: &[u16], x: u8) -> Option<u16>
     }
 }
 
-/// The value that a dealer with these coefficients, the constant first, hands a member in one view.
+/// A member's value in one view, dealt by the polynomial with these coefficients, the constant first. None where they are not
+/// f + 1 numbers up to 256, or the member is not one of 1 to n.
 pub fn dealt(n: u8, coefficients: &[u16], member: u8) -> Option<u16>
-    ensures value { λ r. ⌜ Handed n (now (coefficients .entry)) member r ⌝ }
-    ensures sound { λ _. ⌜ Handed-is-sound ⌝ }
+    ensures { λ r. ⌜ Deals n (now (coefficients .entry)) member r ⌝ }
 {
-    if coefficients.len() != share_count(n) {
-        return None;
+    if coefficients.len() == share_count(n) && is_member(n, member) {
+        value_at(coefficients, member)
+    } else {
+        None
     }
-    if !is_member(n, member) {
-        return None;
-    }
-    value_at(coefficients, member)
+}
+
+/// Values of `dealt`, from one polynomial for each view, make a sound dealing.
+pub fn dealings_are_sound() -> u8
+    ensures { λ _. ⌜ Dealings-are-sound ⌝ }
+{
+    0
 }

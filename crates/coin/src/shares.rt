@@ -12,12 +12,14 @@ pub struct Share {
 }
 
 impl Share {
+    // Whether the value is at most the greatest.
     fn is_within(self, greatest: u16) -> bool
         ensures { λ r. ⌜ Tells r (Within greatest self) ⌝ }
     {
         self.value <= greatest
     }
 
+    // Whether this is a share of another member than `first`.
     fn is_other(self, first: Share) -> bool
         ensures { λ r. ⌜ Tells r (Other first self) ⌝ }
     {
@@ -56,6 +58,7 @@ pub(crate) fn share_count(n: u8) -> usize
     n.saturating_sub(1) as usize / 3 + 1
 }
 
+// Whether the number is a member's: one of 1 to n.
 pub(crate) fn is_member(n: u8, member: u8) -> bool
     ensures { λ r. ⌜ Tells r (Member n member) ⌝ }
 {

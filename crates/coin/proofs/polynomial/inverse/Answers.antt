@@ -1,5 +1,4 @@
 use mathlib.Core.Path.{sym, subst}
-use Prim.Native.Nat.{_*_, _%_, _<_}
 use Rattle.coin.specs.Interpolation.{Inverse}
 use Rattle.coin.proofs.Inverses.{entry}
 use Rattle.coin.proofs.polynomial.inverse.Needs as need
