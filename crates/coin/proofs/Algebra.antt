@@ -1,8 +1,8 @@
 -- What Newton's interpolation needs of numbers modulo 257, where 256 stands for -1.
-use mathlib.Core.Path.{_≡_, refl, sym, ap, _∙_}
+use mathlib.Core.Path.{_≡_, sym, ap, _∙_}
 use mathlib.Core.Logic.{_≢_}
 use Prim.Native.Nat.{ℕ, _+_, _*_, _/_, _%_, _<_, _≤_}
-use native.Mathlib.Nat.{add-mul, mul-add, mul-assoc, mul-comm, mul-left-comm, one-mul, add-mul-mod-self-left, mod-add-div}
+use native.Mathlib.Nat.{add-mul, mul-add, mul-assoc, mul-comm, mul-left-comm, one-mul, mod-add-div}
 use native.Mathlib.Omega.{arith}
 
 -- a factor may be reduced first

@@ -1,17 +1,13 @@
 -- The inverses modulo 257, and their rule: one test, computed over the whole table.
 use mathlib.Core.Path.{_≡_, refl, sym, ap, _∙_}
-use mathlib.Core.List.{List, map}
+use mathlib.Core.List.{map}
 use Prim.Native.Nat.{ℕ, _+_, _-_, _*_, _%_, _<_}
 use native.Mathlib.Omega.{arith}
 use lib.ListN.{getD, replicate}
 use Rattle.std.specs.Iters.{counting}
 use Rattle.std.proofs.shelf.Lists.{getD-replicate}
 use Rattle.std.proofs.shelf.Counted.{getD-map-counting}
-use Rattle.coin.specs.Interpolation.{inverseOf}
-
--- the inverses of 1 to 256: this computes to the code's table
-abbrev pub inverses : List ℕ
-inverses = map inverseOf (counting 1 256)
+use Rattle.coin.specs.Interpolation.{inverseOf, inverses, Inverse}
 
 abbrev product : ℕ → ℕ
 product a = a * getD inverses (a - 1) 0 % 257
@@ -20,7 +16,7 @@ product a = a * getD inverses (a - 1) 0 % 257
 computed : map product (counting 1 256) ≡ replicate 256 1
 computed = refl
 
-pub entry : (a : ℕ) → 0 < a → a < 257 → record { is : getD inverses (a - 1) 0 ≡ inverseOf a; inverts : a * getD inverses (a - 1) 0 % 257 ≡ 1; below : getD inverses (a - 1) 0 < 257 }
+pub entry : (a : ℕ) → 0 < a → a < 257 → Inverse a (getD inverses (a - 1) 0)
 entry a h l =
     let here : a - 1 < 256 = omega arith in
     let place : 1 + (a - 1) ≡ a = omega arith in

@@ -5,13 +5,12 @@ use mathlib.Core.List.{List, [], _∷_}
 use Prim.Native.Nat.{ℕ, _%_, _<_, _≤_}
 use native.Mathlib.Nat.{mod-lt}
 use native.Mathlib.Omega.{arith}
-use Rattle.std.specs.Orderings.{When}
 use Rattle.std.specs.shelf.Lists.{All}
 use Rattle.coin.specs.declared.shares.Share.{Share}
-use Rattle.coin.specs.Shares.{Other, Apart, WellFormed, Member, memberOf}
+use Rattle.coin.specs.Shares.{Tells, Other, Apart, WellFormed, Member, memberOf}
 
 -- where the first share's member is in no other, the rest decides
-pub apart-cons : (r : Bool) (xs : List Share) (s : Share) (ss : List Share) → xs ≡ s ∷ ss → All (Other s) ss → When r (Apart ss) (Apart ss → ⊥) → When r (Apart xs) (Apart xs → ⊥)
+pub apart-cons : (r : Bool) (xs : List Share) (s : Share) (ss : List Share) → xs ≡ s ∷ ss → All (Other s) ss → Tells r (Apart ss) → Tells r (Apart xs)
 apart-cons true xs s ss e all h = subst Apart (sym e) (all, h)
 apart-cons false xs s ss e all h = λ apart. h (subst Apart e apart .1)
 

@@ -1,16 +1,15 @@
 -- The shares after one step of the interpolation.
-use mathlib.Core.Path.{_≡_, refl, sym, ap, subst, _∙_}
+use mathlib.Core.Path.{_≡_, sym, ap, _∙_}
 use mathlib.Core.List.{List, [], _∷_, _++_, map}
-use Prim.Native.Nat.{ℕ, _+_, _*_, _%_, _<_, _≤_}
+use Prim.Native.Nat.{ℕ, _+_, _<_, _≤_}
 use native.Mathlib.Nat.{le-of-lt}
 use lib.ListN.{length, getD, set, take, drop}
-use Rattle.std.specs.shelf.Lists.{All}
 use Rattle.std.proofs.shelf.Lists.{append-nil, length-map, length-take-le, drop-more, drop-all, take-all, getD-at, getD-default}
-use Rattle.std.proofs.shelf.Elements.{all-getD, all-map, all-weaker}
+use Rattle.std.proofs.shelf.Elements.{all-map}
 use Rattle.std.proofs.shelf.Edits.{map-over-more}
 use Rattle.coin.specs.declared.shares.Share.{Share}
 use Rattle.coin.specs.Shares.{nobody, Other, Apart}
-use Rattle.coin.specs.Interpolation.{reduce, at-zero}
+use Rattle.coin.specs.Interpolation.{reduce, from-slope, at-zero}
 
 -- the members stay apart
 pub apart-reduced : (s : Share) (ss : List Share) → Apart ss → Apart (map (reduce s) ss)
@@ -29,7 +28,7 @@ module _ (f : Share → Share) (ys xs : List Share) (i : ℕ) (inv : ys ≡ map 
   pub all-mapped : length xs ≤ i → ys ≡ map f xs
   all-mapped h = inv ∙ ap (λ zs. map f zs ++ drop i xs) (take-all i xs h) ∙ ap (λ zs. map f xs ++ zs) (drop-all i xs h) ∙ append-nil (map f xs)
 
-pub at-zero-step : (xs : List Share) (s : Share) (ss rest : List Share) (slope : ℕ) → xs ≡ s ∷ ss → rest ≡ map (reduce s) ss → slope ≡ at-zero (length rest) rest → (s .value + 256 * (s .member * slope)) % 257 ≡ at-zero (length xs) xs
+pub at-zero-step : (xs : List Share) (s : Share) (ss rest : List Share) (slope : ℕ) → xs ≡ s ∷ ss → rest ≡ map (reduce s) ss → slope ≡ at-zero (length rest) rest → from-slope s slope ≡ at-zero (length xs) xs
 at-zero-step xs s ss rest slope e r h =
     let counted : at-zero (length rest) rest ≡ at-zero (length ss) (map (reduce s) ss) = ap (λ zs. at-zero (length zs) zs) r ∙ ap (λ k. at-zero k (map (reduce s) ss)) (length-map ss (reduce s)) in
-    ap (λ k. (s .value + 256 * (s .member * k)) % 257) (h ∙ counted) ∙ sym (ap (λ zs. at-zero (length zs) zs) e)
+    ap (from-slope s) (h ∙ counted) ∙ sym (ap (λ zs. at-zero (length zs) zs) e)

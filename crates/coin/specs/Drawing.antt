@@ -16,10 +16,14 @@ Equal n d = (view m : ℕ) → Member n m → d view m ≡ d view 1
 abbrev pub drawnFor : ℕ → Dealing → ℕ → ℕ
 drawnFor n d view = memberOf n (d view 1)
 
--- of s and the shares, the one of the lowest-numbered member
+-- of two shares the one of the lower-numbered member
+abbrev pub lower : Share → Share → Share
+lower s t = cond (ltb (t .member) (s .member)) t s
+
+-- of s and the shares the one of the lowest-numbered member
 abbrev pub lowest : Share → List Share → Share
 lowest s [] = s
-lowest s (t ∷ ts) = lowest (cond (ltb (t .member) (s .member)) t s) ts
+lowest s (t ∷ ts) = lowest (lower s t) ts
 
 abbrev pub drawnBy : ℕ → List Share → ℕ
 drawnBy n shares = memberOf n (lowest (getD shares 0 nobody) shares .value)

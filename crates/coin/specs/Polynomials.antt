@@ -1,4 +1,4 @@
--- Polynomials modulo 257: which dealings lie on them, and what a dealer hands out.
+-- Polynomials modulo 257: the dealings that lie on them, and how one is dealt.
 use mathlib.Core.Path.{_≡_}
 use mathlib.Core.List.{List, [], _∷_}
 use Prim.Native.Nat.{ℕ, _+_, _*_, _%_, _≤_}
@@ -36,17 +36,17 @@ abbrev pub Evaluated : List ℕ → ℕ → Option ℕ → Type 0
 Evaluated cs x (Some v) = Residues cs × (v ≡ eval cs x % 257)
 Evaluated cs x None = Residues cs → ⊥
 
--- a dealer may hand the member m of n a value of this polynomial
+-- the coefficients make a polynomial of degree at most f, and m is one of the members to deal to
 pub record Dealable (n : ℕ) (cs : List ℕ) (m : ℕ) : Type 0 where
   pub degree : length cs ≡ size n
   pub residues : Residues cs
   pub member : Member n m
 
--- what a dealer hands the member m: its value, and none only where it may not
-abbrev pub Handed : ℕ → List ℕ → ℕ → Option ℕ → Type 0
-Handed n cs m (Some v) = Dealable n cs m × (v ≡ eval cs m % 257)
-Handed n cs m None = Dealable n cs m → ⊥
+-- what the polynomial deals to the member m: its value there, and none only where that may not be dealt
+abbrev pub Deals : ℕ → List ℕ → ℕ → Option ℕ → Type 0
+Deals n cs m (Some v) = Dealable n cs m × (v ≡ eval cs m % 257)
+Deals n cs m None = Dealable n cs m → ⊥
 
--- a dealing of values that a dealer handed out, from one polynomial for each view, is sound
-abbrev pub Handed-is-sound : Type 0
-Handed-is-sound = (n : ℕ) (p : ℕ → List ℕ) (d : Dealing) → 1 ≤ n → ((view m : ℕ) → Member n m → Handed n (p view) m (Some (d view m))) → Sound n d
+-- values that were so dealt, from one polynomial for each view, make a sound dealing
+abbrev pub Dealings-are-sound : Type 0
+Dealings-are-sound = (n : ℕ) (p : ℕ → List ℕ) (d : Dealing) → 1 ≤ n → ((view m : ℕ) → Member n m → Deals n (p view) m (Some (d view m))) → Sound n d

@@ -1,15 +1,21 @@
 -- Dealings and shares: when shares are well formed, and what an election of them answers.
 use mathlib.Core.Path.{_≡_}
 use mathlib.Core.Logic.{_≢_}
+use mathlib.Core.Bool.{Bool}
 use mathlib.Core.List.{List, [], _∷_}
 use Prim.Native.Nat.{ℕ, _+_, _-_, _/_, _%_, _≤_}
 use lib.ListN.{length}
+use Rattle.std.specs.Orderings.{When}
 use Rattle.std.specs.shelf.Lists.{All}
 use Rattle.std.specs.declared.result.Result.{Result}
 use Rattle.std.specs.declared.result.Result.the-variants.{Ok, Err}
 use Rattle.coin.specs.declared.shares.Share.{Share}
 use Rattle.coin.specs.declared.shares.ElectError.{ElectError}
 use Rattle.coin.specs.declared.shares.ElectError.the-variants.{Count, Unknown, Repeated, Excess}
+
+-- b is true exactly where P holds
+abbrev pub Tells : Bool → Type 0 → Type 0
+Tells b P = When b P (P → ⊥)
 
 -- the value that each view and member is given
 abbrev pub Dealing : Type 0

@@ -3,7 +3,7 @@ ghost use mathlib.Core.Path.{_≡_};
 ghost use Prim.Native.Nat.{_<_};
 ghost use lib.ListN.{length, getD};
 ghost use Rattle.coin.specs.Shares.{nobody};
-ghost use Rattle.coin.specs.Drawing.{Equal, lowest, drawnFor, drawnBy};
+ghost use Rattle.coin.specs.Drawing.{Equal, lower, lowest, drawnFor, drawnBy};
 use crate::Coin;
 use crate::shares::ElectError;
 use crate::shares::Share;
@@ -14,6 +14,17 @@ use crate::shares::member_of;
 #[derive(Clone, Copy)]
 pub struct DrawnList;
 
+// The share of the lower-numbered member, the first where both are one's.
+fn lower_of(first: Share, second: Share) -> Share
+    ensures { λ r. ⌜ r ≡ lower first second ⌝ }
+{
+    if second.member < first.member {
+        second
+    } else {
+        first
+    }
+}
+
 // The share of the lowest-numbered member.
 fn lowest_of(shares: &[Share]) -> Share
     requires { ⌜ 0 < length (now shares) ⌝ }
@@ -21,9 +32,7 @@ fn lowest_of(shares: &[Share]) -> Share
 {
     let mut best = shares[0];
     for share in shares {
-        if share.member < best.member {
-            best = *share;
-        }
+        best = lower_of(best, *share);
     }
     best
 }

@@ -9,13 +9,18 @@ ghost use Rattle.coin.specs.Shares.{Dealing, Member, WellFormed, Dealt, Answer
 mod drawn_list;
 mod polynomial;
 mod shares;
+#[cfg(test)]
+mod tests;
 
 pub use drawn_list::DrawnList;
 pub use drawn_list::DrawnListCoin;
 pub use polynomial::Polynomial;
 pub use polynomial::PolynomialCoin;
+pub use polynomial::dealings_are_sound;
 pub use polynomial::dealt;
 pub use shares::ElectError;
+pub use shares::ElectErrorDebug;
+pub use shares::ElectErrorPartialEq;
 pub use shares::Share;
 
 /// A rule that elects a member from the shares of one view.
@@ -26,14 +31,16 @@ pub trait Coin {
     // the dealings to n members that are sound
     ghost sound: { Self → ℕ → Dealing → Type 0 };
 
-    // who wins a view of a sound dealing to n members; by `elects` it does not depend on how soundness is shown
+    // who wins each view of a sound dealing to n members
     ghost winner: { (c : Self) (n : ℕ) (d : Dealing) → sound c n d → ℕ → ℕ };
 
     // whom well-formed shares elect among n members
     ghost elected: { Self → ℕ → List Share → ℕ };
 
+    // a winner is a member
     law winners: { (c : Self) (n : ℕ) (d : Dealing) (s : sound c n d) (view : ℕ) → 1 ≤ n → Member n (winner c n d s view) };
 
+    // whoever is elected is a member, out of a sound dealing or not
     law among: { (c : Self) (n : ℕ) (shares : List Share) → WellFormed n (greatest c) shares → Member n (elected c n shares) };
 
     // the coin's law: well-formed shares out of one view of a sound dealing elect that view's winner
@@ -43,7 +50,8 @@ pub trait Coin {
     fn greatest_value(&self) -> u16
         ensures { λ r. ⌜ r ≡ greatest (now (self .entry)) ⌝ };
 
-    /// The member, one of 1 to n, whom the shares elect.
+    /// The member, one of 1 to n, whom the shares elect. Refused are any number of shares but f + 1, a member that is not one
+    /// of 1 to n or stands twice, and a value above the greatest.
     fn elect(&self, n: u8, shares: &[Share]) -> Result<u8, ElectError>
         ensures { λ r. ⌜ Answers n (greatest (now (self .entry))) (now (shares .entry)) (elected (now (self .entry)) n (now (shares .entry))) r ⌝ };
 }

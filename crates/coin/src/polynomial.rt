@@ -1,15 +1,16 @@
 // The polynomial coin: a view's values lie on one polynomial of degree at most f modulo 257, and its value at 0 elects the winner.
 ghost use mathlib.Core.Path.{_≡_};
 ghost use mathlib.Core.Logic.{_≢_};
-ghost use Prim.Native.Nat.{_*_, _%_, _<_, _≤_};
-ghost use lib.ListN.{length};
+ghost use Prim.Native.Nat.{_+_, _*_, _%_, _<_, _≤_};
+ghost use lib.ListN.{length, getD};
 ghost use Rattle.coin.specs.Shares.{Apart};
-ghost use Rattle.coin.specs.Polynomials.{Evaluated, Handed, Handed-is-sound, Sound, winnerOf};
-ghost use Rattle.coin.specs.Interpolation.{inverseOf, reduce, at-zero, electedBy};
+ghost use Rattle.coin.specs.Polynomials.{Evaluated, Deals, Dealings-are-sound, Sound, winnerOf};
+ghost use Rattle.coin.specs.Interpolation.{inverses, Inverse, reduce, from-slope, at-zero, electedBy};
 use crate::Coin;
 use crate::shares::ElectError;
 use crate::shares::Share;
 use crate::shares::examine;
+use crate::shares::is_member;
 use crate::shares::member_of;
 use crate::shares::share_count;
 
@@ -288,13 +289,20 @@ const INVERSES: [u16; 256] = [
 #[derive(Clone, Copy)]
 pub struct Polynomial;
 
+// The inverse of place + 1.
+fn table_entry(place: usize) -> u16
+    requires { ⌜ place < 256 ⌝ }
+    ensures { λ r. ⌜ r ≡ getD inverses place 0 ⌝ }
+{
+    INVERSES[place]
+}
+
+// The inverse of a modulo 257.
 fn inverse(a: u32) -> u32
     requires { ⌜ 0 < a ⌝ ∗ ⌜ a < 257 ⌝ }
-    ensures is { λ r. ⌜ r ≡ inverseOf a ⌝ }
-    ensures inverts { λ r. ⌜ a * r % 257 ≡ 1 ⌝ }
-    ensures below { λ r. ⌜ r < 257 ⌝ }
+    ensures { λ r. ⌜ Inverse a r ⌝ }
 {
-    INVERSES[a as usize - 1] as u32
+    table_entry(a as usize - 1) as u32
 }
 
 // The slope from `first` to `other`, as `other`'s share of a polynomial of one degree less.
@@ -308,6 +316,15 @@ fn reduced(first: Share, other: Share) -> Share
         member: other.member,
         value: (rise * inverse(run) % MODULUS) as u16,
     }
+}
+
+// The value at 0 of the polynomial through `first` whose slopes from there have the value `slope` at 0.
+fn from_slope(first: Share, slope: u32) -> u32
+    requires { ⌜ slope < 257 ⌝ }
+    ensures is { λ r. ⌜ r ≡ from-slope first slope ⌝ }
+    ensures below { λ r. ⌜ r < 257 ⌝ }
+{
+    (first.value as u32 + MINUS * (first.member as u32 * slope)) % MODULUS
 }
 
 // The value at 0 of the polynomial through the points, by Newton's divided differences.
@@ -325,7 +342,7 @@ fn value_at_zero(points: &mut [Share]) -> u32
         *other = reduced(first, *other);
     }
     let slope = value_at_zero(rest);
-    (first.value as u32 + MINUS * (first.member as u32 * slope)) % MODULUS
+    from_slope(first, slope)
 }
 
 // The value at 0 of the polynomial through the shares.
@@ -362,6 +379,13 @@ pub impl Coin for Polynomial as PolynomialCoin {
     }
 }
 
+// One step of Horner's rule.
+fn next_value(constant: u16, x: u8, higher: u16) -> u16
+    ensures { λ r. ⌜ r ≡ (constant + x * higher) % 257 ⌝ }
+{
+    ((constant as u32 + x as u32 * higher as u32) % MODULUS) as u16
+}
+
 // The value at x of the polynomial with these coefficients, the constant first; none where one is no residue.
 fn value_at(coefficients: &[u16], x: u8) -> Option<u16>
     ensures { λ r. ⌜ Evaluated (now (coefficients .entry)) x r ⌝ }
@@ -372,19 +396,27 @@ fn value_at(coefficients: &[u16], x: u8) -> Option<u16>
             if *constant > GREATEST {
                 return None;
             }
-            let slope = value_at(rest, x)?;
-            Some(((*constant as u32 + x as u32 * slope as u32) % MODULUS) as u16)
+            let higher = value_at(rest, x)?;
+            Some(next_value(*constant, x, higher))
         }
     }
 }
 
-/// The value that a dealer with these coefficients, the constant first, hands a member in one view.
+/// A member's value in one view, dealt by the polynomial with these coefficients, the constant first. None where they are not
+/// f + 1 numbers up to 256, or the member is not one of 1 to n.
 pub fn dealt(n: u8, coefficients: &[u16], member: u8) -> Option<u16>
-    ensures value { λ r. ⌜ Handed n (now (coefficients .entry)) member r ⌝ }
-    ensures sound { λ _. ⌜ Handed-is-sound ⌝ }
+    ensures { λ r. ⌜ Deals n (now (coefficients .entry)) member r ⌝ }
 {
-    if coefficients.len() != share_count(n) || member == 0 || member > n {
-        return None;
+    if coefficients.len() == share_count(n) && is_member(n, member) {
+        value_at(coefficients, member)
+    } else {
+        None
     }
-    value_at(coefficients, member)
+}
+
+/// Values of `dealt`, from one polynomial for each view, make a sound dealing.
+pub fn dealings_are_sound() -> u8
+    ensures { λ _. ⌜ Dealings-are-sound ⌝ }
+{
+    0
 }

@@ -1,15 +1,30 @@
 // Shares, and what is wrong with those that elect nobody.
 ghost use mathlib.Core.Path.{_≡_};
 ghost use Prim.Native.Nat.{_<_};
-ghost use Rattle.std.specs.Orderings.{When};
 ghost use Rattle.std.specs.Results.{Cases};
-ghost use Rattle.coin.specs.Shares.{size, AllKnown, Apart, AllWithin, WellFormed, Refused, refusal, memberOf};
+ghost use Rattle.coin.specs.Shares.{size, Tells, Member, Other, Within, AllKnown, Apart, AllWithin, WellFormed, Refused, refusal, memberOf};
 
 /// What one member holds of a view's coin.
 #[derive(Clone, Copy)]
 pub struct Share {
     pub member: u8,
     pub value: u16,
+}
+
+impl Share {
+    // Whether the value is at most the greatest.
+    fn is_within(self, greatest: u16) -> bool
+        ensures { λ r. ⌜ Tells r (Within greatest self) ⌝ }
+    {
+        self.value <= greatest
+    }
+
+    // Whether this is a share of another member than `first`.
+    fn is_other(self, first: Share) -> bool
+        ensures { λ r. ⌜ Tells r (Other first self) ⌝ }
+    {
+        self.member != first.member
+    }
 }
 
 /// Why shares elect nobody, in the order of the tests.
@@ -31,7 +46,7 @@ impl ElectError {
         ensures { λ r. ⌜ r ≡ refusal self ⌝ }
     {
         match self {
-            ElectError::Count | ElectError::Unknown | ElectError::Repeated | ElectError::Excess => 2,
+            Self::Count | Self::Unknown | Self::Repeated | Self::Excess => 2,
         }
     }
 }
@@ -43,11 +58,18 @@ pub(crate) fn share_count(n: u8) -> usize
     n.saturating_sub(1) as usize / 3 + 1
 }
 
+// Whether the number is a member's: one of 1 to n.
+pub(crate) fn is_member(n: u8, member: u8) -> bool
+    ensures { λ r. ⌜ Tells r (Member n member) ⌝ }
+{
+    1 <= member && member <= n
+}
+
 fn members_known(n: u8, shares: &[Share]) -> bool
-    ensures { λ r. ⌜ When r (AllKnown n (now (shares .entry))) (AllKnown n (now (shares .entry)) → ⊥) ⌝ }
+    ensures { λ r. ⌜ Tells r (AllKnown n (now (shares .entry))) ⌝ }
 {
     for share in shares {
-        if share.member == 0 || share.member > n {
+        if !is_member(n, share.member) {
             return false;
         }
     }
@@ -55,13 +77,13 @@ fn members_known(n: u8, shares: &[Share]) -> bool
 }
 
 fn members_apart(shares: &[Share]) -> bool
-    ensures { λ r. ⌜ When r (Apart (now (shares .entry))) (Apart (now (shares .entry)) → ⊥) ⌝ }
+    ensures { λ r. ⌜ Tells r (Apart (now (shares .entry))) ⌝ }
 {
     match shares {
         [] => true,
         [first, rest @ ..] => {
             for other in rest {
-                if other.member == first.member {
+                if !other.is_other(*first) {
                     return false;
                 }
             }
@@ -71,10 +93,10 @@ fn members_apart(shares: &[Share]) -> bool
 }
 
 fn values_within(greatest: u16, shares: &[Share]) -> bool
-    ensures { λ r. ⌜ When r (AllWithin greatest (now (shares .entry))) (AllWithin greatest (now (shares .entry)) → ⊥) ⌝ }
+    ensures { λ r. ⌜ Tells r (AllWithin greatest (now (shares .entry))) ⌝ }
 {
     for share in shares {
-        if share.value > greatest {
+        if !share.is_within(greatest) {
             return false;
         }
     }

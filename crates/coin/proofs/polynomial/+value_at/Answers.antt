@@ -15,14 +15,14 @@ returns-in-empty t c =
     let none : length (c .args .coefficients .now) ≡ 0 = search needs in
     subst (λ xs. Evaluated xs (c .args .x) (Some 0)) (sym (nil-from-length (c .args .coefficients .now) none)) (tt, refl)
 
-pub returns-in-Break-slope : need.returns-in-Break-slope
-returns-in-Break-slope t c =
+pub returns-in-Break-higher : need.returns-in-Break-higher
+returns-in-Break-higher t c =
     let xs = c .args .coefficients .now in
     let some : 1 ≤ length xs = search needs in
-    subst (Evaluated xs (c .args .x)) (sym (c .from-residual .ensures)) (λ all. c .in-Break-slope .ensures tt (subst Residues (whole 0 xs some) all .1))
+    subst (Evaluated xs (c .args .x)) (sym (c .from-residual .ensures)) (λ all. c .in-Break-higher .ensures tt (subst Residues (whole 0 xs some) all .1))
 
-pub returns-in-Continue-slope : need.returns-in-Continue-slope
-returns-in-Continue-slope t c =
+pub returns-in-Continue-higher : need.returns-in-Continue-higher
+returns-in-Continue-higher t c =
     let xs = c .args .coefficients .now in
     let some : 1 ≤ length xs = search needs in
-    horner (getD xs 0 0) (take (length xs - 1) (drop 1 xs)) xs (c .args .x) (c .in-Continue-slope .slope) (whole 0 xs some) (omega arith) (c .in-Continue-slope .ensures tt)
+    horner (getD xs 0 0) (take (length xs - 1) (drop 1 xs)) xs (c .args .x) (c .in-Continue-higher .higher) (c .next-value .result) (c .next-value .ensures) (whole 0 xs some) (omega arith) (c .in-Continue-higher .ensures tt)

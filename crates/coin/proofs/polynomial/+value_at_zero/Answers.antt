@@ -1,4 +1,4 @@
-use mathlib.Core.Path.{_≡_, sym, ap, subst, _∙_}
+use mathlib.Core.Path.{_≡_, sym, subst, _∙_}
 use Prim.Native.Nat.{_-_, _≤_, _<_}
 use native.Mathlib.Omega.{arith}
 use borrow.Author.Needs.{needs}
@@ -45,8 +45,8 @@ returns t c =
     let rest = take (length xs - 1) (drop 1 xs) in
     let some : 1 ≤ length xs = search needs in
     record {
-      is = at-zero-step xs first rest (c .loop-other .rest) (c .value-at-zero-slope .result) (whole nobody xs some)
+      is = c .from-slope .ensures .is ∙ at-zero-step xs first rest (c .loop-other .rest) (c .value-at-zero-slope .result) (whole nobody xs some)
           (all-mapped (reduce first) (c .loop-other .rest) rest (c .loop-other .other-index) (c .loop-other .inv) (omega arith))
           (c .value-at-zero-slope .ensures .is);
-      below = omega arith;
+      below = c .from-slope .ensures .below;
     }
