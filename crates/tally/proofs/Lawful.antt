@@ -1,22 +1,22 @@
 -- The laws of a tally, from those of its items.
-use mathlib.Core.Path.{_≡_, refl, sym, ap, subst, _∙_}
-use mathlib.Core.Bool.{Bool, true, false, cond}
+use mathlib.Core.Path.{_≡_, sym, ap, subst, _∙_}
+use mathlib.Core.Bool.{Bool, true}
 use mathlib.Core.List.{List, [], _∷_, _++_}
-use Prim.Native.Nat.{ℕ, _+_, _-_, _<_, _≤_, zero, suc}
+use Prim.Native.Nat.{ℕ, _+_, _-_, _≤_, zero, suc}
 use native.Mathlib.Omega.{arith}
 use lib.Dec.{eqb, ltb}
 use lib.ListN.{length, getD, set, drop}
 use Rattle.std.specs.shelf.Lists.{All, Has}
 use Rattle.std.proofs.shelf.Lists.{getD-drop}
-use Rattle.std.proofs.shelf.Elements.{has-getD, has-append-right, all-append}
+use Rattle.std.proofs.shelf.Elements.{has-getD, has-append-right}
 use Rattle.std.proofs.shelf.Tests.{cond-both, eqb-true}
 use Rattle.std.specs.declared.option.Option.{Option}
 use Rattle.std.specs.declared.option.Option.the-variants.{Some, None}
 use Rattle.tally.specs.Likeness.{Likeness}
-use Rattle.tally.specs.Walk.{alikeAt, alikeIn, keptAlike, weighed, weightOf}
-use Rattle.tally.specs.Puts.{takes, putTo}
+use Rattle.tally.specs.Walk.{met, ifAlike, alikeIn, keptAlike, weighed, weightOf}
+use Rattle.tally.specs.Puts.{takes}
 use Rattle.tally.specs.Laws.{Kept, Rising, Walk, Laws, Reached-by-that-many}
-use Rattle.tally.proofs.Walks.{adds-item}
+use Rattle.tally.proofs.Walks.{alike-kept}
 use Rattle.tally.proofs.Counts.{counted}
 use Rattle.tally.proofs.Puts.{never-falls, only-given, refused-keeps, reached-takes}
 
@@ -31,32 +31,30 @@ module _ {T : Type 0} (alike : T → T → Bool) (x : T) where
   walk-rises i (Some y ∷ places) =
       let rest = alikeIn alike x (i + 1) places in
       let rises = walk-rises (i + 1) places in
-      let one : List (ℕ × T) = (i, y) ∷ [] in
-      cond-both (alike y x) one [] (λ met. Rising i (met ++ rest)) (λ _. (omega arith, rises)) (λ _. rising-lower i (i + 1) rest (omega arith) rises)
+      cond-both (alike y x) (Some y) None (λ p. Rising i (met i p ++ rest)) (λ _. (omega arith, rises)) (λ _. rising-lower i (i + 1) rest (omega arith) rises)
 
   -- the list `places` stands in `whole` from place i on
   abbrev Within : List (Option T) → ℕ → List (Option T) → Type 0
   Within whole i places = (k j : ℕ) → i + k ≡ j → getD places k None ≡ getD whole j None
 
-  walk-keeps : (whole : List (Option T)) (i : ℕ) (places : List (Option T)) → Within whole i places → All (λ met. Kept whole (met .0) (met .1) × (alike (met .1) x ≡ true)) (alikeIn alike x i places)
+  walk-keeps : (whole : List (Option T)) (i : ℕ) (places : List (Option T)) → Within whole i places → All (λ kept. Kept whole (kept .0) (kept .1) × (alike (kept .1) x ≡ true)) (alikeIn alike x i places)
   walk-keeps whole i [] at = tt
   walk-keeps whole i (None ∷ places) at = walk-keeps whole (i + 1) places (λ k j e. at (suc k) j (omega arith))
   walk-keeps whole i (Some y ∷ places) at =
       let rest = alikeIn alike x (i + 1) places in
       let keeps = walk-keeps whole (i + 1) places (λ k j e. at (suc k) j (omega arith)) in
-      let P : ℕ × T → Type 0 = λ met. Kept whole (met .0) (met .1) × (alike (met .1) x ≡ true) in
-      let one : List (ℕ × T) = (i, y) ∷ [] in
-      cond-both (alike y x) one [] (λ met. All P (met ++ rest)) (λ like. ((sym (at 0 i (omega arith)), like), keeps)) (λ _. keeps)
+      let P : ℕ × T → Type 0 = λ kept. Kept whole (kept .0) (kept .1) × (alike (kept .1) x ≡ true) in
+      cond-both (alike y x) (Some y) None (λ p. All P (met i p ++ rest)) (λ like. ((sym (at 0 i (omega arith)), like), keeps)) (λ _. keeps)
 
   walk-meets : (i k j : ℕ) (places : List (Option T)) (y : T) → i + k ≡ j → Kept places k y → alike y x ≡ true → Has (alikeIn alike x i places) (j, y)
   walk-meets i k j [] y at held like = absurd (let z : _≡_ {A = ℕ} 0 1 = cc in omega arith)
   walk-meets i zero j (p ∷ places) y at held like =
       let rest = alikeIn alike x (i + 1) places in
       let e : i ≡ j = omega arith in
-      subst (λ met. Has (met ++ rest) (j, y)) (sym (adds-item alike x i p y held like))
+      subst (λ q. Has (met i q ++ rest) (j, y)) (sym (alike-kept alike x p y held like))
       (subst (λ (m : ℕ). Has ((i, y) ∷ rest) (m, y)) e (has-getD ((i, y) ∷ rest) 0 (i, y) (omega arith)))
   walk-meets i (suc k) j (p ∷ places) y at held like =
-      has-append-right (alikeAt alike x i p) (alikeIn alike x (i + 1) places) (j, y) (walk-meets (i + 1) k j places y (omega arith) held like)
+      has-append-right (met i (ifAlike alike x p)) (alikeIn alike x (i + 1) places) (j, y) (walk-meets (i + 1) k j places y (omega arith) held like)
 
   pub walks : (places : List (Option T)) (from : ℕ) → Walk alike x places from (keptAlike alike x places from)
   walks places from = record {

@@ -1,16 +1,16 @@
 -- One put and lists of puts: what they answer and leave.
 use mathlib.Core.Path.{_≡_, refl, sym, ap, subst, _∙_}
 use mathlib.Core.Bool.{Bool, true, false, cond}
-use mathlib.Core.List.{List, [], _∷_, _++_}
+use mathlib.Core.List.{List, [], _∷_}
 use mathlib.Core.Logic.{_⊎_, inl, inr, ⊎-elim}
-use Prim.Native.Nat.{ℕ, _+_, _<_}
+use Prim.Native.Nat.{ℕ, _<_}
 use native.Mathlib.Omega.{arith}
-use lib.Dec.{eqb, ltb}
+use lib.Dec.{ltb}
 use lib.ListN.{length, getD, set}
 use Rattle.std.specs.shelf.Lists.{Has}
 use Rattle.std.proofs.shelf.Lists.{getD-set-same, getD-set-other}
 use Rattle.std.proofs.shelf.Elements.{has-getD, has-append-right}
-use Rattle.std.proofs.shelf.Tests.{lt-ltb, ltb-true, cond-both, cases-eq}
+use Rattle.std.proofs.shelf.Tests.{ltb-true, cond-both, cases-eq}
 use Rattle.std.specs.declared.option.Option.{Option}
 use Rattle.std.specs.declared.option.Option.the-variants.{Some, None}
 use Rattle.std.specs.declared.result.Result.{Result}
@@ -18,10 +18,8 @@ use Rattle.std.specs.declared.result.Result.the-variants.{Ok, Err}
 use Rattle.tally.specs.declared.places.Refused.{Refused}
 use Rattle.tally.specs.declared.places.Refused.the-variants.{NoPlace, Held}
 use Rattle.tally.specs.Likeness.{Likeness}
-use Rattle.tally.specs.Walk.{weighed, weightOf}
-use Rattle.tally.specs.Puts.{takes, putTo, judged, afterPuts}
+use Rattle.tally.specs.Puts.{takes, putTo}
 use Rattle.tally.specs.Laws.{Kept, Never-falls, Only-given}
-use Rattle.tally.proofs.Counts.{weighed-put}
 
 -- an answer by its two tests
 abbrev answered : Bool → Bool → Bool → Result Bool Refused
@@ -38,12 +36,6 @@ reached-takes true false reached new old e = absurd (let z : _≡_ {A = ℕ} 0 1
 reached-takes false up reached new old e = absurd (let z : _≡_ {A = ℕ} 0 1 = cc in omega arith)
 
 module _ {T : Type 0} {above alike : T → T → Bool} (laws : Likeness above alike) where
-  -- the answer of a put that is not refused, from the count before it
-  pub judged-taken : (places : List (Option T)) (i : ℕ) (x : T) (threshold count : ℕ) → i < length places → takes above (getD places i None) x ≡ true → count ≡ weighed alike x weightOf places → Ok (eqb (count + 1) threshold) ≡ judged above alike places i x threshold
-  judged-taken places i x threshold count within up is =
-      let n : count + 1 ≡ weighed alike x weightOf (set places i (Some x)) = omega (arith, weighed-put laws weightOf places i x within up) in
-      rw (lt-ltb i (length places) within, up) (ap (λ m. Ok (eqb m threshold)) n)
-
   -- what becomes of the item y of a place
   abbrev Risen : List (Option T) → ℕ → T → Type 0
   Risen after i y = (z : T) × Kept after i z × ((z ≡ y) ⊎ (above z y ≡ true))

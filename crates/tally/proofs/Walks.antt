@@ -1,32 +1,32 @@
 -- The walk over alike items, one place after the other, and the weight of what it meets.
-use mathlib.Core.Path.{_≡_, refl, sym, ap, _∙_}
-use mathlib.Core.Bool.{Bool, true, false, cond}
+use mathlib.Core.Path.{_≡_, sym, ap, _∙_}
+use mathlib.Core.Bool.{Bool, true, false}
 use mathlib.Core.List.{List, [], _∷_, _++_}
 use Prim.Native.Nat.{ℕ, _+_, _<_, _≤_, zero, suc}
 use native.Mathlib.Omega.{arith}
-use lib.ListN.{length, getD, set, drop}
+use lib.ListN.{length, getD, set}
 use Rattle.std.specs.shelf.Lists.{sumBy}
 use Rattle.std.proofs.shelf.Lists.{at-drop-more, at-drop-all}
 use Rattle.std.proofs.shelf.Sums.{sumBy-append}
 use Rattle.std.proofs.shelf.Tests.{cond-true, cond-false}
 use Rattle.std.specs.declared.option.Option.{Option}
 use Rattle.std.specs.declared.option.Option.the-variants.{Some, None}
-use Rattle.tally.specs.Walk.{alikeAt, alikeIn, keptAlike, weighed}
+use Rattle.tally.specs.Walk.{met, ifAlike, alikeIn, keptAlike, weighed}
 
 module _ {T : Type 0} (alike : T → T → Bool) (x : T) where
-  -- one place on: the walk meets what the place adds to it
-  pub kept-more : (places : List (Option T)) (i : ℕ) (p : Option T) → i < length places → p ≡ getD places i p → keptAlike alike x places i ≡ alikeAt alike x i p ++ keptAlike alike x places (i + 1)
-  kept-more places i p within is =
-      at-drop-more (alikeIn alike x i) places i p within ∙ ap (λ (q : Option T). alikeAt alike x i q ++ keptAlike alike x places (i + 1)) (sym is)
+  -- one place on: the walk meets what the place keeps, if that is alike
+  pub kept-more : (places : List (Option T)) (i : ℕ) (p q : Option T) → i < length places → p ≡ getD places i p → ifAlike alike x p ≡ q → keptAlike alike x places i ≡ met i q ++ keptAlike alike x places (i + 1)
+  kept-more places i p q within at is =
+      at-drop-more (alikeIn alike x i) places i p within ∙ ap (λ (o : Option T). met i o ++ keptAlike alike x places (i + 1)) (ap (ifAlike alike x) (sym at) ∙ is)
 
-  pub adds-item : (i : ℕ) (p : Option T) (y : T) → p ≡ Some y → alike y x ≡ true → alikeAt alike x i p ≡ (i, y) ∷ []
-  adds-item i p y is like = ap (alikeAt alike x i) is ∙ cond-true (alike y x) _ _ like
+  pub alike-kept : (p : Option T) (y : T) → p ≡ Some y → alike y x ≡ true → ifAlike alike x p ≡ Some y
+  alike-kept p y is like = ap (ifAlike alike x) is ∙ cond-true (alike y x) _ _ like
 
-  pub adds-unlike : (i : ℕ) (p : Option T) (y : T) → p ≡ Some y → alike y x ≡ false → alikeAt alike x i p ≡ []
-  adds-unlike i p y is other = ap (alikeAt alike x i) is ∙ cond-false (alike y x) _ _ other
+  pub unlike-kept : (p : Option T) (y : T) → p ≡ Some y → alike y x ≡ false → ifAlike alike x p ≡ None
+  unlike-kept p y is other = ap (ifAlike alike x) is ∙ cond-false (alike y x) _ _ other
 
-  pub adds-empty : (i : ℕ) (p : Option T) → p ≡ None → alikeAt alike x i p ≡ []
-  adds-empty i p is = ap (alikeAt alike x i) is
+  pub none-kept : (p : Option T) → p ≡ None → ifAlike alike x p ≡ None
+  none-kept p is = ap (ifAlike alike x) is
 
   pub kept-all : (places : List (Option T)) (i : ℕ) → length places ≤ i → keptAlike alike x places i ≡ []
   kept-all places i past = at-drop-all (alikeIn alike x i) places i past
@@ -34,13 +34,13 @@ module _ {T : Type 0} (alike : T → T → Bool) (x : T) where
   -- a write to place i weighs what the new item there does, in the place of what the old one did
   module _ (weight : ℕ → ℕ) where
     abbrev pub weightAt : ℕ → Option T → ℕ
-    weightAt i p = sumBy (λ kept. weight (kept .0)) (alikeAt alike x i p)
+    weightAt i p = sumBy (λ kept. weight (kept .0)) (met i (ifAlike alike x p))
 
     abbrev weightIn : ℕ → List (Option T) → ℕ
     weightIn i places = sumBy (λ kept. weight (kept .0)) (alikeIn alike x i places)
 
     weight-cons : (n : ℕ) (p : Option T) (places : List (Option T)) → weightIn n (p ∷ places) ≡ weightAt n p + weightIn (n + 1) places
-    weight-cons n p places = sumBy-append (λ kept. weight (kept .0)) (alikeAt alike x n p) (alikeIn alike x (n + 1) places)
+    weight-cons n p places = sumBy-append (λ kept. weight (kept .0)) (met n (ifAlike alike x p)) (alikeIn alike x (n + 1) places)
 
     weight-set : (n i k : ℕ) (places : List (Option T)) (p : Option T) → i < length places → n + i ≡ k → weightIn n (set places i p) + weightAt k (getD places i p) ≡ weightIn n places + weightAt k p
     weight-set n i k [] p within at = absurd (omega arith)
@@ -57,5 +57,5 @@ module _ {T : Type 0} (alike : T → T → Bool) (x : T) where
         let c = weight-set (n + 1) i k places p (omega arith) (omega arith) in
         omega arith
 
-    pub weighed-set : (places : List (Option T)) (i : ℕ) (p d : Option T) → i < length places → weighed alike x weight (set places i p) + weightAt i (getD places i p) ≡ weighed alike x weight places + weightAt i p
-    weighed-set places i p d within = weight-set 0 i i places p within (omega arith)
+    pub weighed-set : (places : List (Option T)) (i : ℕ) (p : Option T) → i < length places → weighed alike x weight (set places i p) + weightAt i (getD places i p) ≡ weighed alike x weight places + weightAt i p
+    weighed-set places i p within = weight-set 0 i i places p within (omega arith)

@@ -7,16 +7,21 @@ use Rattle.std.specs.shelf.Lists.{sumBy}
 use Rattle.std.specs.declared.option.Option.{Option}
 use Rattle.std.specs.declared.option.Option.the-variants.{Some, None}
 
+-- what a walk meets at place i
+abbrev pub met : {T : Type 0} → ℕ → Option T → List (ℕ × T)
+met i None = []
+met i (Some y) = (i, y) ∷ []
+
 module _ {T : Type 0} (alike : T → T → Bool) (x : T) where
-  -- what place i adds to the walk: the place with its item, if that is alike to x
-  abbrev pub alikeAt : ℕ → Option T → List (ℕ × T)
-  alikeAt i None = []
-  alikeAt i (Some y) = cond (alike y x) ((i, y) ∷ []) []
+  -- what a place keeps, if that is alike to x
+  abbrev pub ifAlike : Option T → Option T
+  ifAlike None = None
+  ifAlike (Some y) = cond (alike y x) (Some y) None
 
   -- the walk over places that are numbered from i on
   abbrev pub alikeIn : ℕ → List (Option T) → List (ℕ × T)
   alikeIn i [] = []
-  alikeIn i (p ∷ ps) = alikeAt i p ++ alikeIn (i + 1) ps
+  alikeIn i (p ∷ ps) = met i (ifAlike p) ++ alikeIn (i + 1) ps
 
   -- the items alike to x that the places keep at `from` or above, each with its place
   abbrev pub keptAlike : List (Option T) → ℕ → List (ℕ × T)

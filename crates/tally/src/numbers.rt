@@ -2,7 +2,7 @@ ghost use lib.Dec.{eqb, ltb};
 use super::likeness::Item;
 
 /// The simplest item: one that is only its rank, so that equal ones are alike.
-#[derive(Clone, Copy, Debug, PartialEq, Eq)]
+#[derive(Clone, Copy)]
 pub struct Numbered {
     pub number: u32,
 }

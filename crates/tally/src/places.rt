@@ -1,11 +1,12 @@
 ghost use mathlib.Core.Path.{_≡_};
-ghost use mathlib.Core.Bool.{Bool, true};
-ghost use Prim.Native.Nat.{ℕ, _+_, _<_, _≤_};
+ghost use mathlib.Core.Bool.{true};
+ghost use mathlib.Core.List.{_++_};
+ghost use Prim.Native.Nat.{_+_, _<_, _≤_};
 ghost use lib.ListN.{length, getD, set, replicate};
 ghost use denote.Ref.{name};
 ghost use Rattle.std.specs.declared.option.Option.the-variants.{Some, None};
 ghost use Rattle.std.specs.Options.{Cases as BySome};
-ghost use Rattle.tally.specs.Walk.{keptAlike, weighed, weightOf, onward};
+ghost use Rattle.tally.specs.Walk.{met, keptAlike, weighed, weightOf, onward};
 ghost use Rattle.tally.specs.Puts.{takes, putTo, judged};
 use super::likeness::Item;
 
@@ -18,16 +19,25 @@ pub enum Refused {
     Held,
 }
 
+// What a place keeps, if that is alike to the item.
+fn alike_at<T: Item>(places: &[Option<T>], place: usize, item: &T) -> Option<T>
+    requires { ⌜ place < length (now places) ⌝ }
+    ensures { λ r. ⌜ keptAlike (T·Item .alike) (now (item .entry)) (now (places .entry)) place ≡ met place r ++ keptAlike (T·Item .alike) (now (item .entry)) (now (places .entry)) (place + 1) ⌝ }
+{
+    match &places[place] {
+        Some(kept) if kept.is_like(item) => Some(*kept),
+        _ => None,
+    }
+}
+
 /// The first place at `from` or above that keeps an item alike to this one, and the item that it keeps.
 pub fn next_alike<T: Item>(places: &[Option<T>], from: usize, item: &T) -> Option<(usize, T)>
     ensures walk { λ r. ⌜ keptAlike (T·Item .alike) (now (item .entry)) (now (places .entry)) from ≡ onward r (keptAlike (T·Item .alike) (now (item .entry)) (now (places .entry))) ⌝ }
     ensures within { λ r. ⌜ BySome r (Unit {0}) (λ found. (from ≤ found .0) × (found .0 < length (now (places .entry)))) ⌝ }
 {
     for place in from..places.len() {
-        if let Some(kept) = &places[place]
-            && kept.is_like(item)
-        {
-            return Some((place, *kept));
+        if let Some(kept) = alike_at(places, place, item) {
+            return Some((place, kept));
         }
     }
     None
@@ -44,6 +54,15 @@ fn count_alike<T: Item>(places: &[Option<T>], item: &T) -> usize
         from = place + 1;
     }
     count
+}
+
+// How many places would keep an item alike to this one, were it put into a place that takes it.
+fn count_with<T: Item>(places: &[Option<T>], place: usize, item: &T) -> usize
+    requires there { ⌜ place < length (now places) ⌝ }
+    requires taken { ⌜ takes (T·Item .above) (getD (now places) place None) (now item) ≡ true ⌝ }
+    ensures { λ r. ⌜ r ≡ weighed (T·Item .alike) (now (item .entry)) weightOf (set (now (places .entry)) place (Some (now (item .entry)))) ⌝ }
+{
+    count_alike(places, item) + 1
 }
 
 // Whether a place is empty or holds an item that this one ranks above.
@@ -71,7 +90,7 @@ pub fn judge<T: Item>(
     if !takes_item(&places[place], item) {
         return Err(Refused::Held);
     }
-    Ok(count_alike(places, item) + 1 == threshold)
+    Ok(count_with(places, place, item) == threshold)
 }
 
 /// Keeps the item in the place, unless that is refused, and says whether the kept items alike to it are then exactly as many as the threshold.

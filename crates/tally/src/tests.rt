@@ -1,14 +1,11 @@
 use super::numbers::Numbered;
-use super::numbers::NumberedDebug;
 use super::numbers::NumberedItem;
-use super::numbers::NumberedPartialEq;
 use super::places::Refused;
 use super::places::RefusedDebug as _;
 use super::places::RefusedPartialEq;
 use super::places::Tally;
 use super::places::clear;
 use super::places::judge;
-use super::places::keep;
 use super::places::next_alike;
 use std::test::*;
 
@@ -47,20 +44,39 @@ fn puts() -> Result<(), Fail> {
     put_all(&mut [None; 5])
 }
 
+// A place to begin at, a number, and the place where it is found, over the places that `walks` fills.
+const FOUND: [(usize, u32, Option<usize>); 6] = [
+    (0, 7, Some(1)),
+    (2, 7, Some(4)),
+    (5, 7, None),
+    (9, 7, None),
+    (0, 8, Some(2)),
+    (3, 8, None),
+];
+
+fn place_of(found: Option<(usize, Numbered)>) -> Option<usize> {
+    match found {
+        Some((place, _)) => Some(place),
+        None => None,
+    }
+}
+
 #[test]
 fn walks() -> Result<(), Fail> {
-    let mut places = [None; 5];
     let seven = Numbered { number: 7 };
-    let eight = Numbered { number: 8 };
-    check_eq(keep(&mut places, 1, seven, 1), Ok(true))?;
-    check_eq(keep(&mut places, 2, eight, 1), Ok(true))?;
-    check_eq(keep(&mut places, 4, seven, 2), Ok(true))?;
-    check_eq(next_alike(&places, 0, &seven), Some((1, seven)))?;
-    check_eq(next_alike(&places, 2, &seven), Some((4, seven)))?;
-    check_eq(next_alike(&places, 5, &seven), None)?;
-    check_eq(next_alike(&places, 9, &seven), None)?;
-    check_eq(next_alike(&places, 3, &eight), None)?;
+    let mut places = [
+        None,
+        Some(seven),
+        Some(Numbered { number: 8 }),
+        None,
+        Some(seven),
+    ];
+    for (from, number, place) in FOUND {
+        check_eq(
+            place_of(next_alike(&places, from, &Numbered { number })),
+            place,
+        )?;
+    }
     clear(&mut places);
-    check_eq(next_alike(&places, 0, &seven), None)?;
-    check_eq(next_alike(&places, 0, &eight), None)
+    check_eq(place_of(next_alike(&places, 0, &seven)), None)
 }
