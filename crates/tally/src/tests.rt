@@ -1,0 +1,82 @@
+use super::numbers::Numbered;
+use super::numbers::NumberedItem;
+use super::places::Refused;
+use super::places::RefusedDebug as _;
+use super::places::RefusedPartialEq;
+use super::places::Tally;
+use super::places::clear;
+use super::places::judge;
+use super::places::next_alike;
+use std::test::*;
+
+// A place, the number that is put there, and the answer at a threshold of 3, over five places in the order of the table.
+const PUTS: [(usize, u32, Result<bool, Refused>); 12] = [
+    (0, 7, Ok(false)),
+    (1, 7, Ok(false)),
+    // equal and lower ranks are refused, and so is a place that is not there
+    (1, 7, Err(Refused::Held)),
+    (1, 6, Err(Refused::Held)),
+    (5, 7, Err(Refused::NoPlace)),
+    // the third seven reaches, and the fourth does not again
+    (2, 7, Ok(true)),
+    (3, 7, Ok(false)),
+    // two places move on and leave two sevens, so that another seven reaches again
+    (0, 8, Ok(false)),
+    (1, 8, Ok(false)),
+    (4, 7, Ok(true)),
+    // the third eight
+    (2, 8, Ok(true)),
+    (2, 8, Err(Refused::Held)),
+];
+
+fn put_all(places: &mut [Option<Numbered>]) -> Result<(), Fail> {
+    for (place, number, answer) in PUTS {
+        let item = Numbered { number };
+        check_eq(judge(places, place, &item, 3), answer)?;
+        let mut tally = Tally::over(places);
+        check_eq(tally.put(place, item, 3), answer)?;
+    }
+    Ok(())
+}
+
+#[test]
+fn puts() -> Result<(), Fail> {
+    put_all(&mut [None; 5])
+}
+
+// A place to begin at, a number, and the place where it is found, over the places that `walks` fills.
+const FOUND: [(usize, u32, Option<usize>); 6] = [
+    (0, 7, Some(1)),
+    (2, 7, Some(4)),
+    (5, 7, None),
+    (9, 7, None),
+    (0, 8, Some(2)),
+    (3, 8, None),
+];
+
+fn place_of(found: Option<(usize, Numbered)>) -> Option<usize> {
+    match found {
+        Some((place, _)) => Some(place),
+        None => None,
+    }
+}
+
+#[test]
+fn walks() -> Result<(), Fail> {
+    let seven = Numbered { number: 7 };
+    let mut places = [
+        None,
+        Some(seven),
+        Some(Numbered { number: 8 }),
+        None,
+        Some(seven),
+    ];
+    for (from, number, place) in FOUND {
+        check_eq(
+            place_of(next_alike(&places, from, &Numbered { number })),
+            place,
+        )?;
+    }
+    clear(&mut places);
+    check_eq(place_of(next_alike(&places, 0, &seven)), None)
+}
