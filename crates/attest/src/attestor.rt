@@ -2,11 +2,10 @@
 ghost use mathlib.Core.Path.{_≡_};
 ghost use mathlib.Core.Bool.{Bool, cond};
 ghost use mathlib.Core.List.{List};
-ghost use Prim.Native.Nat.{ℕ, _+_, _*_};
-ghost use lib.ListN.{length};
+ghost use Prim.Native.Nat.{ℕ, _+_, _*_, _≤_, max};
 ghost use Rattle.std.specs.Results.{isOk};
 ghost use Rattle.std.specs.Vec.{made};
-ghost use Rattle.attest.specs.Limits.{overlay};
+ghost use Rattle.attest.specs.Limits.{tagRoom, overlay};
 ghost use Rattle.attest.specs.Laws.{Laws};
 
 /// The most members of a group.
@@ -59,7 +58,8 @@ pub trait Attestor {
 
     /// The bytes of a tag for n members.
     fn width(n: u8) -> usize
-        ensures { λ r. ⌜ r ≡ perMember * n + fixed ⌝ };
+        ensures value { λ r. ⌜ r ≡ perMember * n + fixed ⌝ }
+        ensures within { λ r. ⌜ r ≤ 16 * max 4 n ⌝ };
 
     /// The number of the one that it signs for.
     fn owner_number(&self) -> u8
@@ -77,7 +77,8 @@ pub trait Attestor {
     /// nothing.
     fn sign(&mut self, words: &[u8], tag: &mut [u8; TAG_ROOM]) -> Result<usize, WillNotSign>
         ensures willing { λ r. ⌜ isOk r ≡ signs (now (self .entry)) (now (words .entry)) ⌝ }
-        ensures long { λ r. ⌜ made r (λ n. n ≡ length (tagOf (now (self .entry)) (now (words .entry)))) ⌝ }
+        ensures long { λ r. ⌜ made r (λ n. n ≡ perMember * members (now (self .entry)) + fixed) ⌝ }
+        ensures within { λ r. ⌜ made r (λ n. n ≤ tagRoom) ⌝ }
         ensures written { λ r. ⌜ now (tag .exit) ≡ cond (isOk r) (overlay (now (tag .entry)) (tagOf (now (self .entry)) (now (words .entry)))) (now (tag .entry)) ⌝ }
         ensures state { λ r. ⌜ now (self .exit) ≡ cond (isOk r) (signed (now (self .entry)) (now (words .entry))) (now (self .entry)) ⌝ };
 }

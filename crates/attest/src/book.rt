@@ -1,7 +1,6 @@
 // The book: an attestor over a lent table of entries, for members that share one process.
 ghost use mathlib.Core.Path.{_≡_};
-ghost use Prim.Native.Nat.{ℕ, _+_, _*_, _≤_, _<_};
-ghost use lib.ListN.{length};
+ghost use Prim.Native.Nat.{_+_, _*_, _≤_, max};
 ghost use mathlib.Core.Bool.{cond};
 ghost use lib.Dec.{leb};
 ghost use Rattle.std.specs.Results.{isOk};
@@ -82,7 +81,8 @@ pub impl Attestor for Book<'_> as BookAttestor {
 
     // an impl of a type with a lifetime writes the clauses of a function without `self` out
     fn width(n: u8) -> usize
-        ensures { λ r. ⌜ r ≡ 0 * n + 4 ⌝ }
+        ensures value { λ r. ⌜ r ≡ 0 * n + 4 ⌝ }
+        ensures within { λ r. ⌜ r ≤ 16 * max 4 n ⌝ }
     {
         Self::TAG_PER_MEMBER * n as usize + Self::TAG_FIXED
     }
