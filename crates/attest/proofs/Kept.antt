@@ -27,8 +27,8 @@ given-after : {S : Type 0} (g : Ghosts S) (b : S) (owner : ℕ) (words : List �
     → g .accepts (afterAll g (asked g b words) later) owner words (g .tagOf b words) ≡ true
 given-after g b owner words later is ok =
     let now : g .accepts (asked g b words) owner words (g .tagOf b words) ≡ true =
-        ap (λ x. g .accepts x owner words (g .tagOf b words)) (cond-true (g .signs b words) (g .signed b words) b ok)
-        ∙ ap (λ (n : ℕ). g .accepts (g .signed b words) n words (g .tagOf b words)) (sym is) ∙ g .laws .givenAccepted b words ok in
+    ap (λ x. g .accepts x owner words (g .tagOf b words)) (cond-true (g .signs b words) (g .signed b words) b ok)
+    ∙ ap (λ (n : ℕ). g .accepts (g .signed b words) n words (g .tagOf b words)) (sym is) ∙ g .laws .givenAccepted b words ok in
     accepted-after g (asked g b words) later owner words (g .tagOf b words) now
 
 pub attested : {S : Type 0} (g : Ghosts S) → Attested S g

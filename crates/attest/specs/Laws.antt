@@ -16,4 +16,4 @@ pub record Laws {S : Type 0} (perMember fixed : ℕ) (owner members : S → ℕ)
   pub tagWidth : (a : S) (words : List ℕ) → length (tagOf a words) ≡ perMember * members a + fixed
   pub givenAccepted : (a : S) (words : List ℕ) → signs a words ≡ true → accepts (signed a words) (owner a) words (tagOf a words) ≡ true
   pub acceptedStays : (a : S) (words : List ℕ) → signs a words ≡ true
-    → (s : ℕ) (said tag : List ℕ) → accepts a s said tag ≡ true → accepts (signed a words) s said tag ≡ true
+      → (s : ℕ) (said tag : List ℕ) → accepts a s said tag ≡ true → accepts (signed a words) s said tag ≡ true

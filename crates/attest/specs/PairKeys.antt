@@ -1,7 +1,8 @@
 -- Pair keys as an attestor.
 use mathlib.Core.List.{List, [], _++_}
-use mathlib.Core.Bool.{Bool, _&&_, cond}
-use Prim.Native.Nat.{ℕ, _+_, _-_, _*_}
+use mathlib.Core.Bool.{Bool, true, _&&_, cond}
+use mathlib.Core.Path.{_≡_}
+use Prim.Native.Nat.{ℕ, _+_, _-_, _*_, _≤_}
 use lib.Dec.{eqb, leb}
 use lib.ListN.{length, getD, replicate, take}
 use Rattle.std.specs.shelf.Text.{sameBytes}
@@ -46,3 +47,9 @@ pairAccepts p signer words tag =
 
 abbrev pub ownTag : PairKeys → List ℕ → List ℕ
 ownTag p words = pairTag (take (p .group .number) (p .sending)) words
+
+-- a tag under a signer's keys is accepted as that signer's by each member that shares the key at its own place
+abbrev pub Accepted-by-receivers : List (List ℕ) → List ℕ → Type 0
+Accepted-by-receivers keys words =
+    (p : PairKeys) (signer : ℕ) → signer ≤ p .group .number → length keys ≡ p .group .number
+    → getD keys (p .owner - 1) [] ≡ getD (p .receiving) signer [] → pairAccepts p signer words (pairTag keys words) ≡ true

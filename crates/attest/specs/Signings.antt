@@ -17,8 +17,8 @@ afterAll g a (words ∷ rest) = afterAll g (asked g a words) rest
 pub record Attested (S : Type 0) (g : Ghosts S) : Type 0 where
   -- what it accepts it accepts after any signings
   pub stays : (a : S) (asks : List (List ℕ)) (signer : ℕ) (words tag : List ℕ)
-    → g .accepts a signer words tag ≡ true → g .accepts (afterAll g a asks) signer words tag ≡ true
+      → g .accepts a signer words tag ≡ true → g .accepts (afterAll g a asks) signer words tag ≡ true
   -- a tag that it gives, after any signings, is accepted for its owner after that signing and any later ones
   pub given : (a : S) (before : List (List ℕ)) (words : List ℕ) (later : List (List ℕ))
-    → g .signs (afterAll g a before) words ≡ true
-    → g .accepts (afterAll g (afterAll g a before) (words ∷ later)) (g .owner a) words (g .tagOf (afterAll g a before) words) ≡ true
+      → g .signs (afterAll g a before) words ≡ true
+      → g .accepts (afterAll g (afterAll g a before) (words ∷ later)) (g .owner a) words (g .tagOf (afterAll g a before) words) ≡ true

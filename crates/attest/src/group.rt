@@ -3,7 +3,7 @@ ghost use mathlib.Core.Path.{_≡_};
 ghost use Prim.Native.Nat.{_≤_};
 ghost use Rattle.attest.specs.Limits.{maxMembers};
 
-pub mod size;
+mod size;
 
 /// How many members a group has: 1 to `MAX_MEMBERS`.
 #[derive(Clone, Copy)]

@@ -41,9 +41,10 @@ turn xs ys d i inv =
 decided : (xs ys : List ℕ) (d i : ℕ) → length xs ≡ 16 → length ys ≡ 16 → i ≡ 16 → (d ≡ 0 → Agree xs ys i) × (Agree xs ys i → d ≡ 0) → eqb d 0 ≡ sameBytes xs ys
 unfolding Agree
 decided xs ys d i longX longY end inv =
-    same-from-decides (eqb d 0) (sameBytes xs ys)
-    ( λ t. ext-getD 0 xs ys (longX ∙ sym longY) (λ k h. inv .0 (eqb-true d 0 t) k (omega arith)),
-      λ e. eq-eqb d 0 (inv .1 (λ k h. ap (λ (zs : List ℕ). getD zs k 0) e)) )
+    same-from-decides (eqb d 0) (sameBytes xs ys) (
+      λ t. ext-getD 0 xs ys (longX ∙ sym longY) (λ k h. inv .0 (eqb-true d 0 t) k (omega arith)),
+      λ e. eq-eqb d 0 (inv .1 (λ k h. ap (λ (zs : List ℕ). getD zs k 0) e)),
+    )
     (sameBytes-decides xs ys)
 
 pub loop-i-again : need.loop-i-again

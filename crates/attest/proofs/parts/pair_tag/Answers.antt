@@ -3,6 +3,7 @@ use mathlib.Core.List.{List, [], _++_}
 use mathlib.Core.Bool.{Bool, cond}
 use Prim.Native.Nat.{ℕ, _+_, _-_, _*_, _/_, _≤_, _<_}
 use native.Mathlib.Omega.{arith}
+use borrow.Author.Needs.{needs}
 use borrow.Rule.Slice.PartMut.{putMid}
 use lib.Dec.{leb}
 use lib.ListN.{length, getD, take, drop}
@@ -13,6 +14,7 @@ use Rattle.std.proofs.shelf.Tests.{le-leb}
 use Rattle.attest.specs.Limits.{overlay}
 use Rattle.attest.specs.Parts.{partBytes, pairPart, pairTag}
 use Rattle.attest.specs.PartLaws.{length-tag}
+use Rattle.attest.specs.PairLaws.{accepted-by-receivers}
 use Rattle.attest.proofs.parts.pair_tag.Needs as need
 
 -- one part more
@@ -27,10 +29,10 @@ turn keys words start out last part i d within e partE lastE =
     let long : length front ≡ 16 * i = length-tag (take i keys) words ∙ ap (λ (n : ℕ). 16 * n) (length-take-le i keys (omega arith)) in
     let before : take (16 * i) out ≡ front = ap (take (16 * i)) e ∙ take-at front rest (16 * i) long in
     let after : drop 16 (drop (16 * i) out) ≡ drop (16 * (i + 1)) start =
-        ap (λ (x : List ℕ). drop 16 (drop (16 * i) x)) e ∙ ap (drop 16) (drop-at front rest (16 * i) long) ∙ drop-drop 16 (16 * i) start ∙ ap (λ (n : ℕ). drop n start) next in
+    ap (λ (x : List ℕ). drop 16 (drop (16 * i) x)) e ∙ ap (drop 16) (drop-at front rest (16 * i) long) ∙ drop-drop 16 (16 * i) start ∙ ap (λ (n : ℕ). drop n start) next in
     let more : front ++ last ≡ pairTag (take (i + 1) keys) words =
-        ap (λ (x : List ℕ). front ++ x) (lastE ∙ partE) ∙ joined-more (pairPart words) [] (take i keys) (getD keys i d)
-        ∙ ap (λ (x : List (List ℕ)). pairTag x words) (sym (take-more keys i d within)) in
+    ap (λ (x : List ℕ). front ++ x) (lastE ∙ partE) ∙ joined-more (pairPart words) [] (take i keys) (getD keys i d)
+    ∙ ap (λ (x : List (List ℕ)). pairTag x words) (sym (take-more keys i d within)) in
     ap (λ (n : ℕ). take (16 * i) out ++ (last ++ drop n (drop (16 * i) out))) wide
     ∙ ap (λ (x : List ℕ). x ++ (last ++ drop 16 (drop (16 * i) out))) before
     ∙ ap (λ (x : List ℕ). front ++ (last ++ x)) after
@@ -54,4 +56,12 @@ pub returns : need.returns
 returns c = record {
   answer = roomy (length (c .args .keys .now)) (length (c .args .out .now)) (c .if-keys-out .left);
   written = whole (c .args .keys .now) (c .args .words .now) (c .args .out .now) (c .loop-i .out) (c .loop-i .i) (omega arith) (c .loop-i .inv);
+  accepted = accepted-by-receivers (c .args .keys .now) (c .args .words .now);
+}
+
+pub returns-then-keys-out : need.returns-then-keys-out
+returns-then-keys-out c = record {
+  answer = search needs;
+  written = search needs;
+  accepted = accepted-by-receivers (c .args .keys .now) (c .args .words .now);
 }

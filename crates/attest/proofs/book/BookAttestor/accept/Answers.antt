@@ -30,8 +30,8 @@ decided b s w t place count d r four here all below is =
     let found : getD es place d ≡ getD (entered b) place blank = getD-default es place d blank (omega arith) ∙ sym (getD-take (b .count) es place blank (omega arith)) in
     is ∙ ap (λ (e : Entry). entryHolds e s w) found
     ∙ sym (ap (λ (x : Bool). x && holdsAt (entered b) (number32 t 0) s w) (eq-eqb (length t) 4 four)
-        ∙ ap (λ (k : ℕ). holdsAt (entered b) k s w) (sym here)
-        ∙ ap (λ (x : Bool). x && entryHolds (getD (entered b) place blank) s w) (lt-ltb place (length (entered b)) (omega arith)))
+    ∙ ap (λ (k : ℕ). holdsAt (entered b) k s w) (sym here)
+    ∙ ap (λ (x : Bool). x && entryHolds (getD (entered b) place blank) s w) (lt-ltb place (length (entered b)) (omega arith)))
 
 pub returns-then-place-entered : need.returns-then-place-entered
 returns-then-place-entered c =

@@ -20,8 +20,8 @@ use Rattle.attest.proofs.entry.Entry.holds.Needs as need
 capped : (n k : ℕ) (xs : List ℕ) → length xs ≡ 44 → k ≡ min n 44 → take (k - 0) xs ≡ take n xs
 capped n k xs long is =
     elim (cases-lt n 44) [
-      inl h ↦ ap (λ (i : ℕ). take i xs) (omega arith) |
-      inr h ↦ take-all (k - 0) xs (omega arith) ∙ sym (take-all n xs (omega arith))
+      | inl h ↦ ap (λ (i : ℕ). take i xs) (omega arith)
+      | inr h ↦ take-all (k - 0) xs (omega arith) ∙ sym (take-all n xs (omega arith))
     ]
 
 held : (e : Entry) (s : ℕ) (w : List ℕ) (k : ℕ) (r : Bool) → e .signer ≡ s → length (e .words) ≡ 44 → k ≡ min (e .len) 44

@@ -18,10 +18,10 @@ decided : (owner : ℕ) (s r : List (List ℕ)) (b : Bool) → length s ≤ 13 �
 decided owner s r b few more first among is =
     let same = sameBytes (getD s (owner - 1) []) (getD r owner []) in
     is ∙ sym (
-      ap (λ (x : Bool). x && (eqb (length r) (length s + 1) && (leb 1 owner && (leb owner (length s) && same)))) (le-leb (length s) 13 few)
-      ∙ ap (λ (x : Bool). x && (leb 1 owner && (leb owner (length s) && same))) (eq-eqb _ _ more)
-      ∙ ap (λ (x : Bool). x && (leb owner (length s) && same)) (le-leb 1 owner first)
-      ∙ ap (λ (x : Bool). x && same) (le-leb owner (length s) among)
+    ap (λ (x : Bool). x && (eqb (length r) (length s + 1) && (leb 1 owner && (leb owner (length s) && same)))) (le-leb (length s) 13 few)
+    ∙ ap (λ (x : Bool). x && (leb 1 owner && (leb owner (length s) && same))) (eq-eqb _ _ more)
+    ∙ ap (λ (x : Bool). x && (leb owner (length s) && same)) (le-leb 1 owner first)
+    ∙ ap (λ (x : Bool). x && same) (le-leb owner (length s) among)
     )
 
 pub returns : need.returns

@@ -10,7 +10,7 @@ use Rattle.attest.proofs.pair_keys.attests.row.Needs as need
 filled : (keys row : List (List ℕ)) → row ≡ keys → row ++ drop (length keys - 0) (replicate 14 (replicate 32 0)) ≡ padded keys
 filled keys row e =
     let rest : drop (length keys - 0) (replicate 14 (replicate 32 0)) ≡ replicate (14 - length keys) (replicate 32 0) =
-        drop-replicate (length keys - 0) 14 (replicate 32 0) ∙ ap (λ (n : ℕ). replicate (14 - n) (replicate 32 0)) (sub-zero (length keys)) in
+    drop-replicate (length keys - 0) 14 (replicate 32 0) ∙ ap (λ (n : ℕ). replicate (14 - n) (replicate 32 0)) (sub-zero (length keys)) in
     ap (λ (x : List (List ℕ)). x ++ drop (length keys - 0) (replicate 14 (replicate 32 0))) e ∙ ap (λ (x : List (List ℕ)). keys ++ x) rest
 
 pub returns : need.returns
