@@ -1,0 +1,43 @@
+use borrow.Author.Needs.{needs}
+use mathlib.Core.Path.{_≡_, sym, ap, _∙_}
+use mathlib.Core.List.{List}
+use mathlib.Core.Bool.{Bool, false, _&&_}
+use Prim.Native.Nat.{ℕ, _<_, _≤_, min}
+use native.Mathlib.Omega.{arith}
+use lib.Dec.{eqb, ltb}
+use lib.ListN.{length, getD}
+use Rattle.std.proofs.shelf.Lists.{getD-default, getD-take, length-take}
+use Rattle.std.proofs.shelf.Tests.{and-left, and-right, eq-eqb, le-ltb, lt-ltb}
+use Rattle.digest.specs.Bytes.{number32}
+use Rattle.attest.specs.Entry.{blank, entryHolds}
+use Rattle.attest.specs.Book.{entered, holdsAt, bookAccepts}
+use Rattle.attest.specs.declared.book.Book.{Book}
+use Rattle.attest.specs.declared.entry.Entry.{Entry}
+use Rattle.attest.proofs.book.BookAttestor.accept.Needs as need
+
+-- a place past the entries
+past : (b : Book) (s : ℕ) (w t : List ℕ) (place count : ℕ) → place ≡ number32 t 0 → count ≡ min (b .count) (length (b .entries .now)) → count ≤ place → false ≡ bookAccepts b s w t
+past b s w t place count here all far =
+    let long = length-take (b .count) (b .entries .now) in
+    sym (and-right (eqb (length t) 4) _ (and-left _ _ (le-ltb (number32 t 0) (length (entered b)) (omega arith))))
+
+-- the entry at the place decides
+decided : (b : Book) (s : ℕ) (w t : List ℕ) (place count : ℕ) (d : Entry) (r : Bool) → length t ≡ 4 → place ≡ number32 t 0
+    → count ≡ min (b .count) (length (b .entries .now)) → place < count → r ≡ entryHolds (getD (b .entries .now) place d) s w → r ≡ bookAccepts b s w t
+decided b s w t place count d r four here all below is =
+    let es = b .entries .now in
+    let long = length-take (b .count) es in
+    let found : getD es place d ≡ getD (entered b) place blank = getD-default es place d blank (omega arith) ∙ sym (getD-take (b .count) es place blank (omega arith)) in
+    is ∙ ap (λ (e : Entry). entryHolds e s w) found
+    ∙ sym (ap (λ (x : Bool). x && holdsAt (entered b) (number32 t 0) s w) (eq-eqb (length t) 4 four)
+    ∙ ap (λ (k : ℕ). holdsAt (entered b) k s w) (sym here)
+    ∙ ap (λ (x : Bool). x && entryHolds (getD (entered b) place blank) s w) (lt-ltb place (length (entered b)) (omega arith)))
+
+pub returns-then-place-entered : need.returns-then-place-entered
+returns-then-place-entered c =
+    past (c .args .self .now) (c .args .signer) (c .args .words .now) (c .args .tag .now) _ _ (c .from-be-bytes-place .ensures) (c .min-entered .ensures) (c .if-place-entered .taken)
+
+pub returns : need.returns
+returns c =
+    decided (c .args .self .now) (c .args .signer) (c .args .words .now) (c .args .tag .now) _ _ _ (c .holds .result) (search needs)
+    (c .from-be-bytes-place .ensures) (c .min-entered .ensures) (c .if-place-entered .left) (c .holds .ensures)

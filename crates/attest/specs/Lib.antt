@@ -1,0 +1,11 @@
+pub mod Limits
+pub mod Group
+pub mod Laws
+pub mod Entry
+pub mod Book
+pub mod BookLaws
+pub mod Parts
+pub mod PartLaws
+pub mod PairKeys
+pub mod PairLaws
+pub mod Signings
