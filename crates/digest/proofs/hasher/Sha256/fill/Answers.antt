@@ -10,6 +10,6 @@ returns c =
     record {
       absorbs =
           absorbs h part _
-          (took-fill h part (c .place .last .block) (c .compressed-state .result) (omega arith) (search needs) (c .place .ensures) (c .compressed-state .ensures));
+          (took-fill h part (c .place .last .block) (c .compress .last .state) (omega arith) (search needs) (c .place .ensures) (c .compress .ensures));
       whole = omega arith;
     }
