@@ -44,18 +44,9 @@ fn puts() -> Result<(), Fail> {
     put_all(&mut [None; 5])
 }
 
-// A place to begin at, a number, and the place where it is found, over the places that `walks` fills.
-const FOUND: [(usize, u32, Option<usize>); 6] = [
-    (0, 7, Some(1)),
-    (2, 7, Some(4)),
-    (5, 7, None),
-    (9, 7, None),
-    (0, 8, Some(2)),
-    (3, 8, None),
-];
-
-fn place_of(found: Option<(usize, Numbered)>) -> Option<usize> {
-    match found {
+// Where the walk from a place on first meets the number.
+fn found_at(places: &[Option<Numbered>], from: usize, number: u32) -> Option<usize> {
+    match next_alike(places, from, &Numbered { number }) {
         Some((place, _)) => Some(place),
         None => None,
     }
@@ -63,20 +54,13 @@ fn place_of(found: Option<(usize, Numbered)>) -> Option<usize> {
 
 #[test]
 fn walks() -> Result<(), Fail> {
-    let seven = Numbered { number: 7 };
-    let mut places = [
-        None,
-        Some(seven),
-        Some(Numbered { number: 8 }),
-        None,
-        Some(seven),
-    ];
-    for (from, number, place) in FOUND {
-        check_eq(
-            place_of(next_alike(&places, from, &Numbered { number })),
-            place,
-        )?;
-    }
+    let seven = Some(Numbered { number: 7 });
+    let eight = Some(Numbered { number: 8 });
+    let mut places = [None, seven, eight, None, seven];
+    check_eq(found_at(&places, 0, 7), Some(1))?;
+    check_eq(found_at(&places, 2, 7), Some(4))?;
+    check_eq(found_at(&places, 5, 7), None)?;
+    check_eq(found_at(&places, 3, 8), None)?;
     clear(&mut places);
-    check_eq(place_of(next_alike(&places, 0, &seven)), None)
+    check_eq(found_at(&places, 0, 7), None)
 }
