@@ -1,2 +1,4 @@
 pub mod EntrySteps
 pub mod Reading
+pub mod Fields
+pub mod Ranked

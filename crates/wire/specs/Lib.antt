@@ -5,3 +5,6 @@ pub mod Certificates
 pub mod Messages
 pub mod Told
 pub mod Layouts
+pub mod Writing
+pub mod Higher
+pub mod Examples
