@@ -4,3 +4,5 @@ pub mod EntryTrips
 pub mod Passing
 pub mod CertificateTrips
 pub mod MessageTrips
+pub mod Fields
+pub mod Ranked

@@ -6,3 +6,6 @@ pub mod Messages
 pub mod Told
 pub mod Layouts
 pub mod RoundTrips
+pub mod Writing
+pub mod Higher
+pub mod Examples
