@@ -38,6 +38,7 @@ fn filled_block(bytes: &[u8]) -> [u8; 64]
     block
 }
 
+// The digest of the text behind the one mask of the block, digested again behind the other.
 fn nested_digest(block: [u8; 64], text: &[u8]) -> [u8; 32]
     ensures { λ r. ⌜ r ≡ nested block (now (text .entry)) ⌝ }
 {
@@ -47,6 +48,7 @@ fn nested_digest(block: [u8; 64], text: &[u8]) -> [u8; 32]
     sha256_of_two(&outer, &within)
 }
 
+// Each byte of the block exclusive-or the mask.
 fn masked_block(mut block: [u8; 64], mask: u8) -> [u8; 64]
     ensures { λ r. ⌜ r ≡ map (masked mask) block ⌝ }
 {
