@@ -40,19 +40,19 @@ static uint32_t majority(uint32_t x, uint32_t y, uint32_t z) {
     return (x & y) ^ (x & z) ^ (y & z);
 }
 
-static uint32_t large0(uint32_t x) {
+static uint32_t big_sigma0(uint32_t x) {
     return rotr(x, 2) ^ rotr(x, 13) ^ rotr(x, 22);
 }
 
-static uint32_t large1(uint32_t x) {
+static uint32_t big_sigma1(uint32_t x) {
     return rotr(x, 6) ^ rotr(x, 11) ^ rotr(x, 25);
 }
 
-static uint32_t small0(uint32_t x) {
+static uint32_t small_sigma0(uint32_t x) {
     return rotr(x, 7) ^ rotr(x, 18) ^ (x >> 3);
 }
 
-static uint32_t small1(uint32_t x) {
+static uint32_t small_sigma1(uint32_t x) {
     return rotr(x, 17) ^ rotr(x, 19) ^ (x >> 10);
 }
 
@@ -63,7 +63,7 @@ static void schedule(uint32_t w[64], const uint8_t block[64]) {
                (uint32_t)p[2] << 8 | (uint32_t)p[3];
     }
     for (int t = 16; t < 64; t++) {
-        w[t] = small1(w[t - 2]) + w[t - 7] + small0(w[t - 15]) + w[t - 16];
+        w[t] = small_sigma1(w[t - 2]) + w[t - 7] + small_sigma0(w[t - 15]) + w[t - 16];
     }
 }
 
@@ -73,8 +73,8 @@ static void compress(uint32_t state[8], const uint8_t block[64]) {
     uint32_t a = state[0], b = state[1], c = state[2], d = state[3];
     uint32_t e = state[4], f = state[5], g = state[6], h = state[7];
     for (int t = 0; t < 64; t++) {
-        uint32_t t1 = h + large1(e) + choose(e, f, g) + constants[t] + w[t];
-        uint32_t t2 = large0(a) + majority(a, b, c);
+        uint32_t t1 = h + big_sigma1(e) + choose(e, f, g) + constants[t] + w[t];
+        uint32_t t2 = big_sigma0(a) + majority(a, b, c);
         h = g;
         g = f;
         f = e;

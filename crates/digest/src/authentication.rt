@@ -1,13 +1,12 @@
 // HMAC-SHA-256: a tag for a text under a key.
 ghost use mathlib.Core.Path.{_≡_};
-ghost use mathlib.Core.List.{_++_, map};
+ghost use mathlib.Core.List.{map};
 ghost use Prim.Native.Nat.{_≤_};
 ghost use lib.ListN.{length};
-ghost use Rattle.digest.specs.Digest.{digest};
 ghost use Rattle.digest.specs.Hmac.{masked, filled, keyed, nested, authentication};
-use super::hasher::Sha256;
 use super::hasher::place;
 use super::sha256;
+use super::sha256_of_two;
 
 /// HMAC-SHA-256 of a text under a key of any length.
 pub fn hmac(key: &[u8], text: &[u8]) -> [u8; 32]
@@ -39,15 +38,17 @@ fn filled_block(bytes: &[u8]) -> [u8; 64]
     block
 }
 
+// The digest of the text behind the one mask of the block, digested again behind the other.
 fn nested_digest(block: [u8; 64], text: &[u8]) -> [u8; 32]
     ensures { λ r. ⌜ r ≡ nested block (now (text .entry)) ⌝ }
 {
     let inner = masked_block(block, 0x36);
     let outer = masked_block(block, 0x5c);
-    let within = digest_after(inner, text);
-    digest_after(outer, &within)
+    let within = sha256_of_two(&inner, text);
+    sha256_of_two(&outer, &within)
 }
 
+// Each byte of the block exclusive-or the mask.
 fn masked_block(mut block: [u8; 64], mask: u8) -> [u8; 64]
     ensures { λ r. ⌜ r ≡ map (masked mask) block ⌝ }
 {
@@ -55,13 +56,4 @@ fn masked_block(mut block: [u8; 64], mask: u8) -> [u8; 64]
         block[i] = block[i] ^ mask;
     }
     block
-}
-
-// The digest of a block and a text after it.
-fn digest_after(block: [u8; 64], text: &[u8]) -> [u8; 32]
-    ensures { λ r. ⌜ r ≡ digest (block ++ now (text .entry)) ⌝ }
-{
-    let mut hasher = Sha256::after(block);
-    hasher.update(text);
-    hasher.finish()
 }

@@ -3,5 +3,5 @@ use Rattle.digest.proofs.hasher.Sha256.pad.Needs as need
 
 pub returns : need.returns
 returns c =
-    absorbed-padded (c .args .self .now) (c .update .last .self) (c .padding-of-tail .result) (c .zeros-for-count .result) (c .padding-of-tail .ensures)
+    absorbed-padded (c .args .self .now) (c .update .last .self) (c .write-padding .last .tail) (c .zeros-for-count .result) (c .write-padding .ensures)
     (c .zeros-for-count .ensures) (c .update .ensures)
