@@ -25,9 +25,13 @@ keysOf p = record {
   receiving = take (p .group .number + 1) (p .receiving);
 }
 
+-- the places of a row: one for each member of the largest group, and one for the dealer
+abbrev pub keyRoom : ℕ
+keyRoom = maxMembers + 1
+
 -- zeros where a row has no key
 abbrev pub padded : List (List ℕ) → List (List ℕ)
-padded keys = keys ++ replicate (maxMembers + 1 - length keys) (replicate 32 0)
+padded keys = keys ++ replicate (keyRoom - length keys) (replicate 32 0)
 
 -- the rows are those of a member, and have one key for the pair of the member with itself
 abbrev pub fit : ℕ → List (List ℕ) → List (List ℕ) → Bool

@@ -29,7 +29,7 @@ own-keys p = length-take-le (p .group .number) (p .sending) (p .rows)
 own-key : (p : PairKeys) → getD (take (p .group .number) (p .sending)) (p .owner - 1) [] ≡ getD (p .receiving) (p .owner) []
 own-key p = getD-take (p .group .number) (p .sending) (p .owner - 1) [] (omega (arith, p .member, p .among)) ∙ p .paired
 
-pub pair-laws : Laws 16 0 (λ (p : PairKeys). p .owner) (λ p. p .group .number) pairAccepts (λ p words. true) ownTag (λ p words. p)
+pub pair-laws : Laws partBytes 0 (λ (p : PairKeys). p .owner) (λ p. p .group .number) pairAccepts (λ p words. true) ownTag (λ p words. p)
 pair-laws = record {
   narrow = λ n h. omega arith;
   few = λ p. p .group .few;

@@ -4,7 +4,7 @@ ghost use Prim.Native.Nat.{_+_, _*_, _≤_, max};
 ghost use mathlib.Core.Bool.{cond};
 ghost use lib.Dec.{leb};
 ghost use Rattle.std.specs.Results.{isOk};
-ghost use Rattle.attest.specs.Book.{bookOver, handedTo, bookAccepts, bookSigns, bookTag, bookSigned};
+ghost use Rattle.attest.specs.Book.{entered, holdsAt, bookOver, handedTo, bookAccepts, bookSigns, bookTag, bookSigned};
 ghost use Rattle.attest.specs.BookLaws.{book-laws};
 use crate::attestor::Attestor;
 use crate::attestor::TAG_ROOM;
@@ -16,6 +16,8 @@ use crate::group::GroupSize;
 /// The most entries of a book, however long its table.
 pub const BOOK_MOST: u32 = 4096;
 
+/// Who signed which words, for members that share one process. A tag is the place of its entry, from 0, in four bytes, the
+/// highest first. The book is in the hands of one of them at a time.
 #[derive(Drop)]
 pub struct Book<'a> {
     owner: u8,
@@ -53,6 +55,18 @@ impl<'a> Book<'a> {
         }
         self.owner = member;
         Ok(())
+    }
+
+    // Whether there is an entry at the place, of this signer and these words.
+    fn holds_at(&self, place: u32, signer: u8, words: &[u8]) -> bool
+        ensures { λ r. ⌜ r ≡ holdsAt (entered (now (self .entry))) place signer (now (words .entry)) ⌝ }
+    {
+        let entered = (self.count as usize).min(self.entries.len());
+        if place as usize >= entered {
+            return false;
+        }
+        let entry = self.entries[place as usize];
+        entry.holds(signer, words)
     }
 }
 
@@ -99,17 +113,12 @@ pub impl Attestor for Book<'_> as BookAttestor {
         let [a, b, c, d] = tag else {
             return false;
         };
-        let place = u32::from_be_bytes([*a, *b, *c, *d]) as usize;
-        let entered = (self.count as usize).min(self.entries.len());
-        if place >= entered {
-            return false;
-        }
-        let entry = self.entries[place];
-        entry.holds(signer, words)
+        self.holds_at(u32::from_be_bytes([*a, *b, *c, *d]), signer, words)
     }
 
     fn sign(&mut self, words: &[u8], tag: &mut [u8; TAG_ROOM]) -> Result<usize, WillNotSign> {
         let place = self.count;
+        // longer bytes are no words
         if words.len() > WORDS_MOST || place >= BOOK_MOST || place as usize >= self.entries.len() {
             return Err(WillNotSign);
         }

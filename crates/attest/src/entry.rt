@@ -2,6 +2,7 @@
 ghost use mathlib.Core.Path.{_≡_};
 ghost use Prim.Native.Nat.{_≤_};
 ghost use lib.ListN.{length};
+ghost use Rattle.attest.specs.Limits.{wordsMost};
 ghost use Rattle.attest.specs.Entry.{blank, entryOf, entryHolds};
 use crate::attestor::WORDS_MOST;
 
@@ -26,7 +27,7 @@ impl Entry {
     }
 
     pub(crate) fn of(signer: u8, words: &[u8]) -> Entry
-        requires { ⌜ length (now words) ≤ 44 ⌝ }
+        requires { ⌜ length (now words) ≤ wordsMost ⌝ }
         ensures { λ r. ⌜ r ≡ entryOf signer (now (words .entry)) ⌝ }
     {
         let len = words.len();

@@ -4,7 +4,8 @@ ghost use mathlib.Core.List.{List, [], _++_};
 ghost use Prim.Native.Nat.{_-_, _≤_};
 ghost use lib.ListN.{length, replicate};
 ghost use Rattle.std.specs.Options.{mapped};
-ghost use Rattle.attest.specs.PairKeys.{keysOf, givenKeys, fit, padded, pairAccepts, ownTag};
+ghost use Rattle.attest.specs.PairKeys.{keyRoom, keysOf, givenKeys, fit, padded, pairAccepts, ownTag};
+ghost use Rattle.attest.specs.Parts.{partBytes};
 ghost use Rattle.attest.specs.PairLaws.{pair-laws};
 use super::KEY_ROOM;
 use super::PairKeys;
@@ -56,7 +57,7 @@ fn fits(owner: u8, sending: &[Key], receiving: &[Key]) -> bool
 
 // The keys, and zeros after them.
 fn row(keys: &[Key]) -> [Key; KEY_ROOM]
-    requires { ⌜ length (now keys) ≤ 14 ⌝ }
+    requires { ⌜ length (now keys) ≤ keyRoom ⌝ }
     ensures { λ r. ⌜ r ≡ padded (now (keys .entry)) ⌝ }
 {
     let mut row = [[0; 32]; KEY_ROOM];
@@ -69,7 +70,7 @@ pub impl Attestor for PairKeys as PairKeysAttestor {
 
     const TAG_FIXED: usize = 0;
 
-    ghost perMember = { 16 };
+    ghost perMember = { partBytes };
 
     ghost fixed = { 0 };
 

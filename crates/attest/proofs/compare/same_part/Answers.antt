@@ -13,6 +13,7 @@ use Rattle.std.proofs.shelf.Equals.{sameBytes-decides}
 use Rattle.std.proofs.shelf.Lists.{ext-getD}
 use Rattle.std.proofs.shelf.Tests.{eqb-true, eq-eqb}
 use Rattle.std.proofs.shelf.Ways.{same-from-decides}
+use Rattle.attest.specs.Parts.{partBytes}
 use Rattle.attest.proofs.compare.same_part.Needs as need
 
 nothing-or : (x y : ℕ) → bitOr x y ≡ 0 → (x ≡ 0) × (y ≡ 0)
@@ -38,7 +39,7 @@ turn xs ys d i inv =
           ap (λ (n : ℕ). bitOr n (bitXor x y)) none ∙ or-zero-l (bitXor x y) ∙ ap (λ (n : ℕ). bitXor n y) same ∙ xor-self y,
     )
 
-decided : (xs ys : List ℕ) (d i : ℕ) → length xs ≡ 16 → length ys ≡ 16 → i ≡ 16 → (d ≡ 0 → Agree xs ys i) × (Agree xs ys i → d ≡ 0) → eqb d 0 ≡ sameBytes xs ys
+decided : (xs ys : List ℕ) (d i : ℕ) → length xs ≡ partBytes → length ys ≡ partBytes → i ≡ partBytes → (d ≡ 0 → Agree xs ys i) × (Agree xs ys i → d ≡ 0) → eqb d 0 ≡ sameBytes xs ys
 unfolding Agree
 decided xs ys d i longX longY end inv =
     same-from-decides (eqb d 0) (sameBytes xs ys) (

@@ -19,33 +19,33 @@ use Rattle.attest.proofs.parts.pair_tag.Needs as need
 
 -- one part more
 turn : (keys : List (List ℕ)) (words start out last part : List ℕ) (i : ℕ) (d : List ℕ) → i < length keys
-    → out ≡ pairTag (take i keys) words ++ drop (16 * i) start → part ≡ pairPart words (getD keys i d) → last ≡ part
-    → putMid (16 * i) (16 * i + 16 - 16 * i) out last ≡ pairTag (take (i + 1) keys) words ++ drop (16 * (i + 1)) start
+    → out ≡ pairTag (take i keys) words ++ drop (partBytes * i) start → part ≡ pairPart words (getD keys i d) → last ≡ part
+    → putMid (partBytes * i) (partBytes * i + partBytes - partBytes * i) out last ≡ pairTag (take (i + 1) keys) words ++ drop (partBytes * (i + 1)) start
 turn keys words start out last part i d within e partE lastE =
     let front = pairTag (take i keys) words in
-    let rest = drop (16 * i) start in
-    let wide : 16 * i + 16 - 16 * i ≡ 16 = omega arith in
-    let next : 16 * i + 16 ≡ 16 * (i + 1) = omega arith in
-    let long : length front ≡ 16 * i = length-tag (take i keys) words ∙ ap (λ (n : ℕ). 16 * n) (length-take-le i keys (omega arith)) in
-    let before : take (16 * i) out ≡ front = ap (take (16 * i)) e ∙ take-at front rest (16 * i) long in
-    let after : drop 16 (drop (16 * i) out) ≡ drop (16 * (i + 1)) start =
-    ap (λ (x : List ℕ). drop 16 (drop (16 * i) x)) e ∙ ap (drop 16) (drop-at front rest (16 * i) long) ∙ drop-drop 16 (16 * i) start ∙ ap (λ (n : ℕ). drop n start) next in
+    let rest = drop (partBytes * i) start in
+    let wide : partBytes * i + partBytes - partBytes * i ≡ partBytes = omega arith in
+    let next : partBytes * i + partBytes ≡ partBytes * (i + 1) = omega arith in
+    let long : length front ≡ partBytes * i = length-tag (take i keys) words ∙ ap (λ (n : ℕ). partBytes * n) (length-take-le i keys (omega arith)) in
+    let before : take (partBytes * i) out ≡ front = ap (take (partBytes * i)) e ∙ take-at front rest (partBytes * i) long in
+    let after : drop partBytes (drop (partBytes * i) out) ≡ drop (partBytes * (i + 1)) start =
+    ap (λ (x : List ℕ). drop partBytes (drop (partBytes * i) x)) e ∙ ap (drop partBytes) (drop-at front rest (partBytes * i) long) ∙ drop-drop partBytes (partBytes * i) start ∙ ap (λ (n : ℕ). drop n start) next in
     let more : front ++ last ≡ pairTag (take (i + 1) keys) words =
     ap (λ (x : List ℕ). front ++ x) (lastE ∙ partE) ∙ joined-more (pairPart words) [] (take i keys) (getD keys i d)
     ∙ ap (λ (x : List (List ℕ)). pairTag x words) (sym (take-more keys i d within)) in
-    ap (λ (n : ℕ). take (16 * i) out ++ (last ++ drop n (drop (16 * i) out))) wide
-    ∙ ap (λ (x : List ℕ). x ++ (last ++ drop 16 (drop (16 * i) out))) before
+    ap (λ (n : ℕ). take (partBytes * i) out ++ (last ++ drop n (drop (partBytes * i) out))) wide
+    ∙ ap (λ (x : List ℕ). x ++ (last ++ drop partBytes (drop (partBytes * i) out))) before
     ∙ ap (λ (x : List ℕ). front ++ (last ++ x)) after
-    ∙ sym (append-assoc front last (drop (16 * (i + 1)) start))
-    ∙ ap (λ (x : List ℕ). x ++ drop (16 * (i + 1)) start) more
+    ∙ sym (append-assoc front last (drop (partBytes * (i + 1)) start))
+    ∙ ap (λ (x : List ℕ). x ++ drop (partBytes * (i + 1)) start) more
 
-whole : (keys : List (List ℕ)) (words start out : List ℕ) (i : ℕ) → i ≡ length keys → out ≡ pairTag (take i keys) words ++ drop (16 * i) start → out ≡ overlay start (pairTag keys words)
+whole : (keys : List (List ℕ)) (words start out : List ℕ) (i : ℕ) → i ≡ length keys → out ≡ pairTag (take i keys) words ++ drop (partBytes * i) start → out ≡ overlay start (pairTag keys words)
 whole keys words start out i end e =
-    e ∙ ap (λ (x : List (List ℕ)). pairTag x words ++ drop (16 * i) start) (take-all i keys (omega arith))
-    ∙ ap (λ (n : ℕ). pairTag keys words ++ drop n start) (ap (λ (n : ℕ). 16 * n) end ∙ sym (length-tag keys words))
+    e ∙ ap (λ (x : List (List ℕ)). pairTag x words ++ drop (partBytes * i) start) (take-all i keys (omega arith))
+    ∙ ap (λ (n : ℕ). pairTag keys words ++ drop n start) (ap (λ (n : ℕ). partBytes * n) end ∙ sym (length-tag keys words))
 
-roomy : (n m : ℕ) → n ≤ m / 16 → Some (16 * n) ≡ cond (leb (16 * n) m) (Some (16 * n)) None
-roomy n m h = ap (λ (b : Bool). cond b (Some (16 * n)) None) (sym (le-leb (16 * n) m (omega arith)))
+roomy : (n m : ℕ) → n ≤ m / partBytes → Some (partBytes * n) ≡ cond (leb (partBytes * n) m) (Some (partBytes * n)) None
+roomy n m h = ap (λ (b : Bool). cond b (Some (partBytes * n)) None) (sym (le-leb (partBytes * n) m (omega arith)))
 
 pub loop-i-again : need.loop-i-again
 loop-i-again c =

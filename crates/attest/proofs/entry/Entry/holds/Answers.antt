@@ -13,18 +13,19 @@ use Rattle.std.proofs.shelf.Lists.{take-all}
 use Rattle.std.proofs.shelf.Tests.{cases-lt, eq-eqb}
 use Rattle.std.proofs.shelf.Ways.{same-from-decides}
 use Rattle.attest.specs.declared.entry.Entry.{Entry}
+use Rattle.attest.specs.Limits.{wordsMost}
 use Rattle.attest.specs.Entry.{entryHolds}
 use Rattle.attest.proofs.entry.Entry.holds.Needs as need
 
 -- a length past the end takes all
-capped : (n k : ℕ) (xs : List ℕ) → length xs ≡ 44 → k ≡ min n 44 → take (k - 0) xs ≡ take n xs
+capped : (n k : ℕ) (xs : List ℕ) → length xs ≡ wordsMost → k ≡ min n wordsMost → take (k - 0) xs ≡ take n xs
 capped n k xs long is =
-    elim (cases-lt n 44) [
+    elim (cases-lt n wordsMost) [
       | inl h ↦ ap (λ (i : ℕ). take i xs) (omega arith)
       | inr h ↦ take-all (k - 0) xs (omega arith) ∙ sym (take-all n xs (omega arith))
     ]
 
-held : (e : Entry) (s : ℕ) (w : List ℕ) (k : ℕ) (r : Bool) → e .signer ≡ s → length (e .words) ≡ 44 → k ≡ min (e .len) 44
+held : (e : Entry) (s : ℕ) (w : List ℕ) (k : ℕ) (r : Bool) → e .signer ≡ s → length (e .words) ≡ wordsMost → k ≡ min (e .len) wordsMost
     → r ≡ sameBytes w (take (k - 0) (e .words)) → r ≡ entryHolds e s w
 held e s w k r same long is rE =
     rE ∙ ap (sameBytes w) (capped (e .len) k (e .words) long is)

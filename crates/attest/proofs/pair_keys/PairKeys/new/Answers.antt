@@ -11,12 +11,13 @@ use Rattle.std.specs.declared.option.Option.the-variants.{Some, None}
 use Rattle.std.proofs.shelf.Equals.{sameBytes-decides}
 use Rattle.std.proofs.shelf.Lists.{getD-append-left, length-append, take-at}
 use Rattle.std.proofs.shelf.Tests.{and-from, and-parts, cond-true, eqb-true, leb-true, le-leb}
+use Rattle.attest.specs.Limits.{maxMembers}
 use Rattle.attest.specs.Group.{sizeOf}
-use Rattle.attest.specs.PairKeys.{Keys, fit, padded, givenKeys}
+use Rattle.attest.specs.PairKeys.{Keys, keyRoom, fit, padded, givenKeys}
 use Rattle.attest.proofs.pair_keys.PairKeys.new.Needs as need
 
 record Fitting (owner : ℕ) (s r : List (List ℕ)) : Type 0 where
-  few : length s ≤ 13
+  few : length s ≤ maxMembers
   more : length r ≡ length s + 1
   first : 1 ≤ owner
   among : owner ≤ length s
@@ -25,7 +26,7 @@ record Fitting (owner : ℕ) (s r : List (List ℕ)) : Type 0 where
 fitting : (owner : ℕ) (s r : List (List ℕ)) → fit owner s r ≡ true → Fitting owner s r
 fitting owner s r ok =
     let shared = sameBytes (getD s (owner - 1) []) (getD r owner []) in
-    let a = and-parts (leb (length s) 13) (eqb (length r) (length s + 1) && (leb 1 owner && (leb owner (length s) && shared))) ok in
+    let a = and-parts (leb (length s) maxMembers) (eqb (length r) (length s + 1) && (leb 1 owner && (leb owner (length s) && shared))) ok in
     let b = and-parts (eqb (length r) (length s + 1)) (leb 1 owner && (leb owner (length s) && shared)) (a .1) in
     let c = and-parts (leb 1 owner) (leb owner (length s) && shared) (b .1) in
     let d = and-parts (leb owner (length s)) shared (c .1) in
@@ -37,9 +38,9 @@ fitting owner s r ok =
       same = sameBytes-decides _ _ .0 (d .1);
     }
 
-sized : (n g : ℕ) → 1 ≤ n → n ≤ 13 → Some g ≡ sizeOf n → g ≡ n
+sized : (n g : ℕ) → 1 ≤ n → n ≤ maxMembers → Some g ≡ sizeOf n → g ≡ n
 sized n g some few e =
-    let is : sizeOf n ≡ Some n = cond-true _ (Some n) None (and-from _ _ (le-leb 1 n some) (le-leb n 13 few)) in
+    let is : sizeOf n ≡ Some n = cond-true _ (Some n) None (and-from _ _ (le-leb 1 n some) (le-leb n maxMembers few)) in
     cc
 
 -- a key of a row stays where it was
@@ -57,7 +58,7 @@ made : (owner g : ℕ) (s r rowS rowR : List (List ℕ)) → fit owner s r ≡ t
 made owner g s r rowS rowR ok size sE rE =
     let f = fitting owner s r ok in
     let n : g ≡ length s = sized (length s) g (omega (arith, f .first, f .among)) (f .few) size in
-    let pad : List (List ℕ) = replicate (14 - length s) (replicate 32 0) in
+    let pad : List (List ℕ) = replicate (keyRoom - length s) (replicate 32 0) in
     let long : length rowS ≡ length s + length pad = ap length sE ∙ length-append s pad in
     let sending : take g rowS ≡ s = ap (take g) sE ∙ take-at s _ g (sym n) in
     let receiving : take (g + 1) rowR ≡ r = ap (take (g + 1)) rE ∙ take-at r _ (g + 1) (omega (arith, f .more)) in
