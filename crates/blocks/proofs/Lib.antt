@@ -2,3 +2,4 @@ pub mod Overlays
 pub mod RoundTrips
 pub mod Ordered
 pub mod Examples
+pub mod SameStatements

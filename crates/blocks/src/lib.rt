@@ -7,6 +7,7 @@ pub mod head;
 pub mod layout;
 pub mod limits;
 pub mod rank;
+pub mod sameness;
 pub mod statement;
 #[cfg(test)]
 mod tests;

@@ -1,5 +1,6 @@
 pub mod Limits
 pub mod Quorums
+pub mod Forms
 pub mod Entries
 pub mod Certificates
 pub mod Messages
