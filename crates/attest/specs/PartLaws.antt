@@ -31,12 +31,12 @@ piece-joined f k each (x ∷ xs) (suc i) d h =
     ∙ piece-joined f k each xs i d (omega arith)
 
 length-chained : (H m : List ℕ) (n : ℕ) → length H ≡ 8 → length (chained H m n) ≡ 8
-unfolding chained compression
+unfolding compression
 length-chained H m zero h = h
 length-chained H m (suc n) h = refl
 
 length-digest : (m : List ℕ) → length (digest m) ≡ 32
-unfolding digest initial
+unfolding digest
 length-digest m =
     let n = length (padded m) / 64 in
     length-joined bytes32 4 (λ x. refl) (chained initial (padded m) n) ∙ ap (λ (k : ℕ). 4 * k) (length-chained initial (padded m) n refl)
