@@ -73,8 +73,7 @@ static void time_hmac(contender *it, const uint8_t key[32]) {
 
 static void report(const contender *it) {
     printf("%-8s SHA-256 %6.1f MB/s, HMAC %6.1f ns a text\n", it->name,
-           MESSAGE / it->sha256_seconds / 1e6,
-           it->hmac_seconds * 1e9 / TEXTS);
+           MESSAGE / it->sha256_seconds / 1e6, it->hmac_seconds * 1e9 / TEXTS);
 }
 
 int main(void) {

@@ -63,7 +63,8 @@ static void schedule(uint32_t w[64], const uint8_t block[64]) {
                (uint32_t)p[2] << 8 | (uint32_t)p[3];
     }
     for (int t = 16; t < 64; t++) {
-        w[t] = small_sigma1(w[t - 2]) + w[t - 7] + small_sigma0(w[t - 15]) + w[t - 16];
+        w[t] = small_sigma1(w[t - 2]) + w[t - 7] + small_sigma0(w[t - 15]) +
+               w[t - 16];
     }
 }
 
