@@ -1,5 +1,5 @@
 -- The book as an attestor: a tag is the place of its entry, from 0.
-use mathlib.Core.List.{List, []}
+use mathlib.Core.List.{List}
 use mathlib.Core.Bool.{Bool, _&&_}
 use Prim.Native.Nat.{ℕ, _+_, min}
 use denote.Ref.{RefT}

@@ -53,7 +53,7 @@ abbrev pub ownTag : PairKeys → List ℕ → List ℕ
 ownTag p words = pairTag (take (p .group .number) (p .sending)) words
 
 -- a tag under a signer's keys is accepted as that signer's by each member that shares the key at its own place
-abbrev pub Accepted-by-receivers : List (List ℕ) → List ℕ → Type 0
-Accepted-by-receivers keys words =
-    (p : PairKeys) (signer : ℕ) → signer ≤ p .group .number → length keys ≡ p .group .number
+abbrev pub Accepted-by-receivers : Type 0
+Accepted-by-receivers =
+    (keys : List (List ℕ)) (words : List ℕ) (p : PairKeys) (signer : ℕ) → signer ≤ p .group .number → length keys ≡ p .group .number
     → getD keys (p .owner - 1) [] ≡ getD (p .receiving) signer [] → pairAccepts p signer words (pairTag keys words) ≡ true

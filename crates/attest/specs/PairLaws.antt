@@ -1,8 +1,8 @@
 -- Pair keys keep the laws of an attestor.
-use mathlib.Core.Path.{_≡_, refl, sym, ap, _∙_}
-use mathlib.Core.List.{List, []}
+use mathlib.Core.Path.{_≡_, refl, ap, _∙_}
+use mathlib.Core.List.{[]}
 use mathlib.Core.Bool.{true}
-use Prim.Native.Nat.{ℕ, _+_, _-_, _*_, _≤_}
+use Prim.Native.Nat.{ℕ, _-_, _*_}
 use native.Mathlib.Omega.{arith}
 use lib.ListN.{length, getD, take}
 use Rattle.std.proofs.shelf.Equals.{sameBytes-decides}
@@ -14,7 +14,7 @@ use Rattle.attest.specs.PartLaws.{length-tag, part-of-tag}
 use Rattle.attest.specs.PairKeys.{pairAccepts, ownTag, Accepted-by-receivers}
 use Rattle.attest.specs.declared.pair_keys.PairKeys.{PairKeys}
 
-pub accepted-by-receivers : (keys : List (List ℕ)) (words : List ℕ) → Accepted-by-receivers keys words
+pub accepted-by-receivers : Accepted-by-receivers
 accepted-by-receivers keys words p signer low long shared =
     let right : partAt (p .owner) (pairTag keys words) ≡ pairPart words (getD (p .receiving) signer []) =
     part-of-tag keys words (p .owner) (p .member) (omega (arith, p .among)) ∙ ap (pairPart words) shared in

@@ -1,5 +1,4 @@
 // The size of a group of members.
-ghost use mathlib.Core.Path.{_≡_};
 ghost use Prim.Native.Nat.{_≤_};
 ghost use Rattle.attest.specs.Limits.{maxMembers};
 

@@ -8,7 +8,6 @@ ghost use Rattle.std.specs.Options.{isSome};
 ghost use Rattle.std.specs.declared.option.Option.the-variants.{Some, None};
 ghost use Rattle.attest.specs.Limits.{overlay};
 ghost use Rattle.attest.specs.Parts.{partBytes, pairPart, pairTag};
-ghost use Rattle.attest.specs.PairKeys.{Accepted-by-receivers};
 use digest::hmac;
 
 /// The key that a signer and a receiver share.
@@ -32,7 +31,6 @@ pub(crate) fn pair_part(key: &Key, words: &[u8]) -> [u8; PART]
 pub fn pair_tag(keys: &[Key], words: &[u8], out: &mut [u8]) -> Option<usize>
     ensures answer { λ r. ⌜ r ≡ cond (leb (partBytes * length (now (keys .entry))) (length (now (out .entry)))) (Some (partBytes * length (now (keys .entry)))) None ⌝ }
     ensures written { λ r. ⌜ now (out .exit) ≡ cond (isSome r) (overlay (now (out .entry)) (pairTag (now (keys .entry)) (now (words .entry)))) (now (out .entry)) ⌝ }
-    ensures accepted { λ _. ⌜ Accepted-by-receivers (now (keys .entry)) (now (words .entry)) ⌝ }
 {
     if keys.len() > out.len() / PART {
         return None;

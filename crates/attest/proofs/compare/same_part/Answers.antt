@@ -1,11 +1,9 @@
 use borrow.Author.Count.{below-more}
-use borrow.Author.Needs.{needs}
 use mathlib.Core.Path.{_≡_, sym, ap, _∙_}
 use mathlib.Core.List.{List}
-use mathlib.Core.Bool.{Bool}
-use Prim.Native.Nat.{ℕ, _+_, _≤_, _<_}
+use Prim.Native.Nat.{ℕ, _+_, _<_}
 use native.Mathlib.Omega.{arith}
-use lib.Bits.{bitOr, bitXor, bitAnd, and-le-l, and-le-r, or-add-and, or-zero-l, xor-add-and, xor-self}
+use lib.Bits.{bitOr, bitXor, and-le-l, and-le-r, or-add-and, or-zero-l, xor-add-and, xor-self}
 use lib.Dec.{eqb}
 use lib.ListN.{length, getD}
 use Rattle.std.specs.shelf.Text.{sameBytes}

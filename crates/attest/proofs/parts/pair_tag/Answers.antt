@@ -3,18 +3,15 @@ use mathlib.Core.List.{List, [], _++_}
 use mathlib.Core.Bool.{Bool, cond}
 use Prim.Native.Nat.{ℕ, _+_, _-_, _*_, _/_, _≤_, _<_}
 use native.Mathlib.Omega.{arith}
-use borrow.Author.Needs.{needs}
 use borrow.Rule.Slice.PartMut.{putMid}
 use lib.Dec.{leb}
 use lib.ListN.{length, getD, take, drop}
-use Rattle.std.specs.declared.option.Option.{Option}
 use Rattle.std.specs.declared.option.Option.the-variants.{Some, None}
 use Rattle.std.proofs.shelf.Lists.{append-assoc, drop-at, drop-drop, joined-more, length-take-le, take-all, take-at, take-more}
 use Rattle.std.proofs.shelf.Tests.{le-leb}
 use Rattle.attest.specs.Limits.{overlay}
 use Rattle.attest.specs.Parts.{partBytes, pairPart, pairTag}
 use Rattle.attest.specs.PartLaws.{length-tag}
-use Rattle.attest.specs.PairLaws.{accepted-by-receivers}
 use Rattle.attest.proofs.parts.pair_tag.Needs as need
 
 -- one part more
@@ -56,12 +53,4 @@ pub returns : need.returns
 returns c = record {
   answer = roomy (length (c .args .keys .now)) (length (c .args .out .now)) (c .if-keys-out .left);
   written = whole (c .args .keys .now) (c .args .words .now) (c .args .out .now) (c .loop-i .out) (c .loop-i .i) (omega arith) (c .loop-i .inv);
-  accepted = accepted-by-receivers (c .args .keys .now) (c .args .words .now);
-}
-
-pub returns-then-keys-out : need.returns-then-keys-out
-returns-then-keys-out c = record {
-  answer = search needs;
-  written = search needs;
-  accepted = accepted-by-receivers (c .args .keys .now) (c .args .words .now);
 }

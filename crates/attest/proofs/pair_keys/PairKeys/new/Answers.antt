@@ -1,19 +1,18 @@
 use mathlib.Core.Path.{_≡_, sym, ap, _∙_}
-use mathlib.Core.List.{List, [], _++_}
-use mathlib.Core.Bool.{Bool, true, _&&_, cond}
+use mathlib.Core.List.{List, []}
+use mathlib.Core.Bool.{true, _&&_}
 use Prim.Native.Nat.{ℕ, _+_, _-_, _≤_, _<_}
 use native.Mathlib.Omega.{arith}
 use lib.Dec.{eqb, leb}
 use lib.ListN.{length, getD, take, replicate}
 use Rattle.std.specs.shelf.Text.{sameBytes}
-use Rattle.std.specs.declared.option.Option.{Option}
 use Rattle.std.specs.declared.option.Option.the-variants.{Some, None}
 use Rattle.std.proofs.shelf.Equals.{sameBytes-decides}
 use Rattle.std.proofs.shelf.Lists.{getD-append-left, length-append, take-at}
 use Rattle.std.proofs.shelf.Tests.{and-from, and-parts, cond-true, eqb-true, leb-true, le-leb}
 use Rattle.attest.specs.Limits.{maxMembers}
 use Rattle.attest.specs.Group.{sizeOf}
-use Rattle.attest.specs.PairKeys.{Keys, keyRoom, fit, padded, givenKeys}
+use Rattle.attest.specs.PairKeys.{keyRoom, fit, padded, givenKeys}
 use Rattle.attest.proofs.pair_keys.PairKeys.new.Needs as need
 
 record Fitting (owner : ℕ) (s r : List (List ℕ)) : Type 0 where
