@@ -1,0 +1,9 @@
+use mathlib.Core.Path.{_≡_}
+use Rattle.table.specs.Ancestry.{extends}
+use Rattle.table.proofs.ancestry.extends.Given as given
+
+abbrev pub Inv-loop-at : given.InvT-loop-at
+Inv-loop-at l = extends (l .table) (l .at) (l .b) ≡ extends (l .table) (l .a) (l .b)
+
+abbrev pub μ-loop-at : given.MeasureT-loop-at
+μ-loop-at l = l .at
