@@ -1,2 +1,5 @@
-pub mod Lookups
 pub mod Walks
+pub mod Orders
+pub mod Lookups
+pub mod Agreements
+pub mod Chains

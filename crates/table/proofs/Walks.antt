@@ -25,6 +25,9 @@ module _ (t : List Held) where
   pub up-low : (i n : ℕ) → i ≤ suc n → up t i ≤ n
   up-low i n le = cond-both (ltb (at t i .parent) i) _ _ (λ p. p ≤ n) (λ e. omega (arith, ltb-true (at t i .parent) i e)) (λ _. omega arith)
 
+  pub up-most : (i : ℕ) → up t i ≤ i
+  up-most i = up-low i i (omega arith)
+
   pub up-lower : (i : ℕ) → 0 < i → up t i < i
   up-lower i pos = cond-both (ltb (at t i .parent) i) _ _ (λ p. p < i) (λ e. ltb-true (at t i .parent) i e) (λ _. pos)
 

@@ -1,6 +1,8 @@
 // What is committed, and the entries of the ledger.
 ghost use mathlib.Core.Path.{_≡_};
-ghost use Rattle.table.specs.Committed.{commit, entryPlace, oneView};
+ghost use Rattle.std.specs.Slices.{found};
+ghost use Rattle.table.specs.Committed.{commit, committedCount, entryPlace, oneView, onward};
+ghost use Rattle.table.specs.Laws.{Commits, Entries, Linked};
 use super::ancestry::ancestor;
 use super::ancestry::extends;
 use super::held::Held;
@@ -18,29 +20,46 @@ pub fn one_view(table: &[Held], i: usize) -> bool
         && view == block_at(table, parent_of(table, parent)).head.view.0
 }
 
-// The last committed place once a certificate of the block at place i is seen; none is a fork.
-pub fn commit(table: &[Held], last: usize, i: usize) -> Option<usize>
-    ensures { λ r. ⌜ r ≡ commit (now (table .entry)) last i ⌝ }
+// The last committed place once the block at place i is to commit; none is a fork.
+fn onward(table: &[Held], last: usize, i: usize) -> Option<usize>
+    ensures { λ r. ⌜ r ≡ onward (now (table .entry)) last i ⌝ }
 {
-    if !one_view(table, i) {
-        return Some(last);
-    }
-    let grandparent = parent_of(table, parent_of(table, i));
-    if extends(table, grandparent, last) {
-        Some(grandparent)
-    } else if extends(table, last, grandparent) {
+    if extends(table, i, last) {
+        Some(i)
+    } else if extends(table, last, i) {
         Some(last)
     } else {
         None
     }
 }
 
+// The last committed place once a certificate of the block at place i is seen; none is a fork.
+pub fn commit(table: &[Held], last: usize, i: usize) -> Option<usize>
+    ensures place { λ r. ⌜ r ≡ commit (now (table .entry)) last i ⌝ }
+    ensures commits { λ r. ⌜ found r (Commits (now (table .entry)) last i) ⌝ }
+{
+    if one_view(table, i) {
+        onward(table, last, parent_of(table, parent_of(table, i)))
+    } else {
+        Some(last)
+    }
+}
+
+// How many blocks are committed.
+pub fn committed_count(table: &[Held], last: usize) -> u32
+    ensures { λ r. ⌜ r ≡ committedCount (now (table .entry)) last ⌝ }
+{
+    block_at(table, last).head.round.0
+}
+
 // The place of the k-th committed block, counted from 1.
 pub fn entry(table: &[Held], last: usize, k: u32) -> Option<usize>
-    ensures { λ r. ⌜ r ≡ entryPlace (now (table .entry)) last k ⌝ }
+    ensures place { λ r. ⌜ r ≡ entryPlace (now (table .entry)) last k ⌝ }
+    ensures entries { λ _. ⌜ (Linked (now (table .entry)) last → Entries (now (table .entry)) last) ⌝ }
 {
-    if k == 0 || k > block_at(table, last).head.round.0 {
-        return None;
+    if k == 0 || k > committed_count(table, last) {
+        None
+    } else {
+        ancestor(table, last, Round(k))
     }
-    ancestor(table, last, Round(k))
 }

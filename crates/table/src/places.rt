@@ -4,13 +4,15 @@ ghost use mathlib.Core.Path.{_≡_};
 ghost use Prim.Native.Nat.{_<_};
 ghost use lib.Dec.{ltb};
 ghost use lib.ListN.{length, set};
+ghost use Rattle.table.specs.Laws.{Finds, Kept};
 ghost use Rattle.table.specs.Places.{at, lookup, up};
 use super::held::GENESIS;
 use super::held::Held;
 
 // The first of the held places whose block has the id.
 pub fn find(table: &[Held], held: usize, id: &[u8; 32]) -> Option<usize>
-    ensures { λ r. ⌜ r ≡ lookup (now (table .entry)) held (now (id .entry)) ⌝ }
+    ensures place { λ r. ⌜ r ≡ lookup (now (table .entry)) held (now (id .entry)) ⌝ }
+    ensures finds { λ r. ⌜ Finds (now (table .entry)) held (now (id .entry)) r ⌝ }
 {
     let places = &table[0..held.min(table.len())];
     for (i, block) in places.iter().enumerate() {
@@ -30,7 +32,8 @@ pub fn block_at(table: &[Held], i: usize) -> &Held
 
 // The place of the parent: a lower place, or else that of genesis.
 pub fn parent_of(table: &[Held], i: usize) -> usize
-    ensures { λ r. ⌜ r ≡ up (now (table .entry)) i ⌝ }
+    ensures place { λ r. ⌜ r ≡ up (now (table .entry)) i ⌝ }
+    ensures lower { λ r. ⌜ (0 < i → r < i) ⌝ }
 {
     let parent = block_at(table, i).parent;
     if parent < i { parent } else { 0 }
@@ -40,6 +43,7 @@ pub fn parent_of(table: &[Held], i: usize) -> usize
 pub fn hold(table: &mut [Held], place: usize, block: Held) -> bool
     ensures answer { λ r. ⌜ r ≡ ltb place (length (now (table .entry))) ⌝ }
     ensures held { λ r. ⌜ now (table .exit) ≡ cond r (set (now (table .entry)) place block) (now (table .entry)) ⌝ }
+    ensures kept { λ _. ⌜ Kept (now (table .entry)) (now (table .exit)) place ⌝ }
 {
     if place >= table.len() {
         return false;
