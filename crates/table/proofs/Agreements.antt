@@ -1,5 +1,5 @@
 -- Two tables that agree below a place give the same answers about the places below it.
-use mathlib.Core.Bool.{Bool, true, false, cond, _&&_, _||_}
+use mathlib.Core.Bool.{Bool, true, cond, _&&_, _||_}
 use mathlib.Core.List.{List, _∷_}
 use mathlib.Core.Path.{_≡_, refl, sym, _∙_, ap}
 use Prim.Native.Nat.{ℕ, zero, suc, _+_, _≤_, _<_, min}
@@ -17,7 +17,7 @@ use Rattle.table.specs.declared.held.Held.{Held}
 use Rattle.table.specs.Places.{at, genesis, up, lookup, lookupFrom}
 use Rattle.table.specs.Ancestry.{firstWithin, extends, ancestor, roundAt, viewAt}
 use Rattle.table.specs.Committed.{Block, blockOf, blockThen, oneView, onward, commit, committedCount, entryPlace, entriesFrom, committedList}
-use Rattle.table.specs.Laws.{Ancestor, Kept}
+use Rattle.table.specs.Laws.{Ancestor, Linked, Kept}
 use Rattle.table.proofs.Walks.{up-most}
 use Rattle.table.proofs.Orders.{found-map, extends-lower, ancestors}
 
@@ -94,6 +94,17 @@ module _ (t u : List Held) (place : ℕ) (same : (i : ℕ) → i < place → at 
   list-agrees last lt =
       ap (λ n. entriesFrom n t last 1) (count-agrees last lt) ∙ entries-agree last lt (committedCount u last) 1
 
+  pub linked-agrees : (a : ℕ) → a < place → Linked u a → Linked t a
+  linked-agrees a lt linked = record { genesis = count-agrees 0 (omega arith) ∙ linked .genesis; rounds = on }
+    where
+      on : (i : ℕ) → 0 < i → extends t a i ≡ true → roundAt t i ≡ roundAt t (up t i) + 1
+      on i pos h =
+          let low : i < place = omega (arith, extends-lower t a i h) in
+          let here = count-agrees i low in
+          let there = count-agrees (up t i) (omega (arith, up-most t i)) ∙ ap (roundAt u) (up-agrees i low) in
+          let r = linked .rounds i pos (sym (extends-agrees a i lt) ∙ h) in
+          omega arith
+
   pub kept-where : length t ≡ length u → Kept u t place
   kept-where long = record {
     blocks = same;
@@ -104,15 +115,9 @@ module _ (t u : List Held) (place : ℕ) (same : (i : ℕ) → i < place → at 
     commits = commit-agrees;
     entries = entry-agrees;
     lists = list-agrees;
+    links = linked-agrees;
   }
 
 -- a block is put into the place
 pub kept-set : (t : List Held) (place : ℕ) (block : Held) → Kept t (set t place block) place
 kept-set t place block = kept-where (set t place block) t place (λ i lt. getD-set-other t place i block genesis (omega arith)) (length-set t place block)
-
-pub kept-same : (t : List Held) (place : ℕ) → Kept t t place
-kept-same t place = kept-where t t place (λ i _. refl) refl
-
-pub kept-held : (t : List Held) (place : ℕ) (block : Held) (r : Bool) → Kept t (cond r (set t place block) t) place
-kept-held t place block true = kept-set t place block
-kept-held t place block false = kept-same t place

@@ -18,8 +18,8 @@ use Rattle.table.specs.Places.{at, up}
 use Rattle.table.specs.Ancestry.{extends, ancestor, roundAt}
 use Rattle.table.specs.Committed.{Block, blockOf, blockThen, oneView, onward, commit, committedCount, entryPlace, entriesFrom, committedList}
 use Rattle.table.specs.Laws.{Ancestor, Linked, Beginning, Entries, Commits}
-use Rattle.table.proofs.Walks.{along, ancestor-here, ancestor-above}
-use Rattle.table.proofs.Orders.{between, extends-self, extends-parent, extends-through}
+use Rattle.table.proofs.Walks.{along, extends-above, ancestor-here, ancestor-above}
+use Rattle.table.proofs.Orders.{between, extends-self, extends-lower, extends-parent, extends-through}
 
 some-only : (b : Bool) (o : Option ℕ) (i : ℕ) → cond b None o ≡ Some i → b ≡ false
 some-only true o i h = absurd (both-ways false refl (ap isSome h))
@@ -31,6 +31,17 @@ module _ (t : List Held) where
     genesis = linked .genesis;
     rounds = λ i pos k. linked .rounds i pos (extends-through t a b i h k);
   }
+
+  pub linked-start : roundAt t 0 ≡ 0 → Linked t 0
+  linked-start e = record { genesis = e; rounds = λ i pos h. absurd (omega (arith, extends-lower t 0 i h)) }
+
+  pub linked-next : (i : ℕ) → 0 < i → roundAt t i ≡ roundAt t (up t i) + 1 → Linked t (up t i) → Linked t i
+  linked-next i pos e linked = record { genesis = linked .genesis; rounds = on }
+    where
+      on : (j : ℕ) → 0 < j → extends t i j ≡ true → roundAt t j ≡ roundAt t (up t j) + 1
+      on j low h =
+          ⊎-elim (λ same. subst (λ k. roundAt t k ≡ roundAt t (up t k) + 1) same e)
+          (λ ne. linked .rounds j low (sym (extends-above t i j ne pos) ∙ h)) (cases-eq i j)
 
   linked-up : (i : ℕ) → 0 < i → Linked t i → Linked t (up t i)
   linked-up i pos linked = linked-through i (up t i) (extends-parent t i pos) linked
@@ -174,7 +185,7 @@ module _ (t : List Held) where
   stays : (last i : ℕ) → (oneView t i ≡ true → extends t last (up t (up t i)) ≡ true) → Commits t last i last
   stays last i h = record { onward = extends-self t last; grandparent = h; grows = λ _. whole-list (committedList t last) }
 
-  commits : (last i : ℕ) → found (commit t last i) (Commits t last i)
+  pub commits : (last i : ℕ) → found (commit t last i) (Commits t last i)
   commits last i =
       let g = up t (up t i) in
       cond-both (oneView t i) (onward t last g) (Some last) (λ o. found o (Commits t last i))
@@ -182,6 +193,3 @@ module _ (t : List Held) where
         (λ e. record { onward = e; grandparent = λ _. extends-self t g; grows = λ linked. entries g linked .grows last e })
         (λ _. cond-both (extends t last g) (Some last) None (λ o. found o (Commits t last i)) (λ e. stays last i (λ _. e)) (λ _. tt)))
       (λ e. stays last i (λ one. absurd (both-ways (oneView t i) e one)))
-
-  pub commits-of : (last i : ℕ) (r : Option ℕ) → r ≡ commit t last i → found r (Commits t last i)
-  commits-of last i r e = subst (λ o. found o (Commits t last i)) (sym e) (commits last i)

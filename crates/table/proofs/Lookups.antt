@@ -9,7 +9,6 @@ use lib.ListN.{length, take, getD}
 use Rattle.std.specs.Options.{isSome}
 use Rattle.std.specs.Slices.{found}
 use Rattle.std.specs.shelf.Text.{sameBytes}
-use Rattle.std.specs.declared.option.Option.{Option}
 use Rattle.std.specs.declared.option.Option.the-variants.{Some, None}
 use Rattle.std.proofs.shelf.Equals.{sameBytes-decides}
 use Rattle.std.proofs.shelf.Lists.{getD-take, getD-default, length-take}
@@ -87,7 +86,8 @@ module _ (t : List Held) (id : List ℕ) where
       (λ i h. record { within = omega arith; there = omega arith; named = h .named; first = λ k lt named. h .first k (omega arith) lt named })
       (from-right (min held (length t)) 0)
 
-  pub finds : (held : ℕ) (r : Option ℕ) → r ≡ lookup t held id → Finds t held id r
-  finds held r e =
-      subst (Finds t held id) (sym e)
-      (record { right = right held; sought = λ i within there named. from-sought (min held (length t)) 0 i (omega arith) (omega arith) named })
+  pub finds : (held : ℕ) → Finds t held id (lookup t held id)
+  finds held = record {
+    right = right held;
+    sought = λ i within there named. from-sought (min held (length t)) 0 i (omega arith) (omega arith) named;
+  }

@@ -90,9 +90,6 @@ module _ (t : List Held) where
     sought = λ i h. first-sought (λ i. eqb (roundAt t i) round) a i (h .extended) (eq-eqb (roundAt t i) round (h .ofRound));
   }
 
-  pub ancestors-of : (a round : ℕ) (r : Option ℕ) → r ≡ ancestor t a round → Ancestors t a round r
-  ancestors-of a round r e = subst (Ancestors t a round) (sym e) (ancestors a round)
-
   pub ancestry : Ancestry t
   ancestry = record {
     reflexive = extends-self;

@@ -4,7 +4,7 @@ use mathlib.Core.List.{List, _++_}
 use mathlib.Core.Logic.{_⊎_}
 use mathlib.Core.Path.{_≡_}
 use Prim.Native.Nat.{ℕ, _+_, _-_, _<_, _≤_}
-use lib.ListN.{length, getD}
+use lib.ListN.{length, getD, set}
 use Rattle.std.specs.Options.{isSome}
 use Rattle.std.specs.Slices.{found}
 use Rattle.std.specs.declared.option.Option.{Option}
@@ -44,6 +44,17 @@ pub record Ancestry (table : List Held) : Type 0 where
   pub root : (a : ℕ) → extends table a 0 ≡ true
   pub chain : (a b c : ℕ) → extends table a b ≡ true → extends table a c ≡ true → (extends table b c ≡ true) ⊎ (extends table c b ≡ true)
 
+-- the way up from a block is well linked: each block's round is its parent's + 1, and genesis has round 0
+pub record Linked (table : List Held) (a : ℕ) : Type 0 where
+  pub genesis : roundAt table 0 ≡ 0
+  pub rounds : (i : ℕ) → 0 < i → extends table a i ≡ true → roundAt table i ≡ roundAt table (up table i) + 1
+
+-- how a way up comes to be well linked
+pub record Links (table : List Held) : Type 0 where
+  pub start : roundAt table 0 ≡ 0 → Linked table 0
+  pub next : (i : ℕ) → 0 < i → roundAt table i ≡ roundAt table (up table i) + 1 → Linked table (up table i) → Linked table i
+  pub below : (a b : ℕ) → extends table a b ≡ true → Linked table a → Linked table b
+
 -- a block is put into a place: nothing changes for the places below it
 pub record Kept (before after : List Held) (place : ℕ) : Type 0 where
   pub blocks : (i : ℕ) → i < place → at after i ≡ at before i
@@ -53,11 +64,7 @@ pub record Kept (before after : List Held) (place : ℕ) : Type 0 where
   pub commits : (last i : ℕ) → last < place → i < place → commit after last i ≡ commit before last i
   pub entries : (last k : ℕ) → last < place → entryPlace after last k ≡ entryPlace before last k
   pub lists : (last : ℕ) → last < place → committedList after last ≡ committedList before last
-
--- the way up from a block is well linked: each block's round is its parent's + 1, and genesis has round 0
-pub record Linked (table : List Held) (a : ℕ) : Type 0 where
-  pub genesis : roundAt table 0 ≡ 0
-  pub rounds : (i : ℕ) → 0 < i → extends table a i ≡ true → roundAt table i ≡ roundAt table (up table i) + 1
+  pub links : (a : ℕ) → a < place → Linked before a → Linked after a
 
 -- the second list begins with the first
 pub record Beginning (xs ys : List Block) : Type 0 where
@@ -85,3 +92,12 @@ pub record Commits (table : List Held) (last i next : ℕ) : Type 0 where
   pub grandparent : oneView table i ≡ true → extends table next (up table (up table i)) ≡ true
   -- the committed list stays or grows at its end
   pub grows : Linked table next → Beginning (committedList table last) (committedList table next)
+
+pub record Laws : Type 0 where
+  pub finds : (table : List Held) (held : ℕ) (id : List ℕ) → Finds table held id (lookup table held id)
+  pub ancestry : (table : List Held) → Ancestry table
+  pub ancestors : (table : List Held) (a round : ℕ) → Ancestors table a round (ancestor table a round)
+  pub links : (table : List Held) → Links table
+  pub kept : (table : List Held) (place : ℕ) (block : Held) → Kept table (set table place block) place
+  pub commits : (table : List Held) (last i : ℕ) → found (commit table last i) (Commits table last i)
+  pub entries : (table : List Held) (last : ℕ) → Linked table last → Entries table last

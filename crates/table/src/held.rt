@@ -56,7 +56,7 @@ impl Held {
     pub fn has_id(&self, id: &[u8; 32]) -> bool
         ensures { λ r. ⌜ r ≡ sameBytes (now (self .entry) .id) (now (id .entry)) ⌝ }
     {
-        self.id == *id
+        same_id(&self.id, id)
     }
 
     pub fn rank(&self) -> Rank
@@ -72,4 +72,10 @@ impl Held {
         let length = PAYLOAD_MOST.min(self.head.payload as usize);
         &self.payload[0..length]
     }
+}
+
+fn same_id(a: &[u8; 32], b: &[u8; 32]) -> bool
+    ensures { λ r. ⌜ r ≡ sameBytes (now (a .entry)) (now (b .entry)) ⌝ }
+{
+    a == b
 }

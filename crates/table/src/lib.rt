@@ -2,4 +2,7 @@
 pub mod ancestry;
 pub mod committed;
 pub mod held;
+pub mod laws;
 pub mod places;
+#[cfg(test)]
+mod tests;

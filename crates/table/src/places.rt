@@ -4,15 +4,13 @@ ghost use mathlib.Core.Path.{_≡_};
 ghost use Prim.Native.Nat.{_<_};
 ghost use lib.Dec.{ltb};
 ghost use lib.ListN.{length, set};
-ghost use Rattle.table.specs.Laws.{Finds, Kept};
 ghost use Rattle.table.specs.Places.{at, lookup, up};
 use super::held::GENESIS;
 use super::held::Held;
 
 // The first of the held places whose block has the id.
 pub fn find(table: &[Held], held: usize, id: &[u8; 32]) -> Option<usize>
-    ensures place { λ r. ⌜ r ≡ lookup (now (table .entry)) held (now (id .entry)) ⌝ }
-    ensures finds { λ r. ⌜ Finds (now (table .entry)) held (now (id .entry)) r ⌝ }
+    ensures { λ r. ⌜ r ≡ lookup (now (table .entry)) held (now (id .entry)) ⌝ }
 {
     let places = &table[0..held.min(table.len())];
     for (i, block) in places.iter().enumerate() {
@@ -23,11 +21,23 @@ pub fn find(table: &[Held], held: usize, id: &[u8; 32]) -> Option<usize>
     None
 }
 
+// The block at a place of the table.
+fn read_at(table: &[Held], i: usize) -> &Held
+    requires { ⌜ i < length (now table) ⌝ }
+    ensures { λ r. ⌜ now r ≡ at (now (table .entry)) i ⌝ }
+{
+    &table[i]
+}
+
 // The block at a place; genesis where there is no such place.
 pub fn block_at(table: &[Held], i: usize) -> &Held
     ensures { λ r. ⌜ now r ≡ at (now (table .entry)) i ⌝ }
 {
-    if i < table.len() { &table[i] } else { &GENESIS }
+    if i < table.len() {
+        read_at(table, i)
+    } else {
+        &GENESIS
+    }
 }
 
 // The place of the parent: a lower place, or else that of genesis.
@@ -43,7 +53,6 @@ pub fn parent_of(table: &[Held], i: usize) -> usize
 pub fn hold(table: &mut [Held], place: usize, block: Held) -> bool
     ensures answer { λ r. ⌜ r ≡ ltb place (length (now (table .entry))) ⌝ }
     ensures held { λ r. ⌜ now (table .exit) ≡ cond r (set (now (table .entry)) place block) (now (table .entry)) ⌝ }
-    ensures kept { λ _. ⌜ Kept (now (table .entry)) (now (table .exit)) place ⌝ }
 {
     if place >= table.len() {
         return false;

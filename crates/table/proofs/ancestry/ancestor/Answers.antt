@@ -1,11 +1,8 @@
-use mathlib.Core.Path.{_≡_, _∙_, sym, ap}
+use mathlib.Core.Path.{_∙_, sym, ap}
 use native.Mathlib.Omega.{arith}
-use borrow.Author.Needs.{needs}
-use Rattle.std.specs.declared.option.Option.the-variants.{None}
 use Rattle.table.specs.declared.held.Held.{Held}
 use Rattle.table.specs.Ancestry.{ancestor}
 use Rattle.table.proofs.Walks.{ancestor-here, ancestor-above}
-use Rattle.table.proofs.Orders.{ancestors-of}
 use Rattle.table.proofs.ancestry.ancestor.Needs as need
 
 pub loop-round-again : need.loop-round-again
@@ -17,10 +14,4 @@ loop-round-again c =
 pub returns : need.returns
 returns c =
     let same = sym (ap (λ (b : Held). b .head .round .0) (c .block-at .ensures)) ∙ c .loop-round-test .left in
-    let e = sym (ancestor-here (c .args .table .now) (c .loop-round .at) (c .args .round .0) same) ∙ c .loop-round .inv in
-    record { place = e; ancestors = ancestors-of _ _ _ _ e }
-
-pub returns-then-at-eq0 : need.returns-then-at-eq0
-returns-then-at-eq0 c =
-    let e : None ≡ ancestor (c .args .table .now) (c .args .a) (c .args .round .0) = search needs in
-    record { place = e; ancestors = ancestors-of _ _ _ _ e }
+    sym (ancestor-here (c .args .table .now) (c .loop-round .at) (c .args .round .0) same) ∙ c .loop-round .inv
