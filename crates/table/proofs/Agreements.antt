@@ -55,14 +55,14 @@ module _ (t u : List Held) (place : ℕ) (same : (i : ℕ) → i < place → at 
       let vp = view (up t i) (up u i) p ep in
       let vg = view (up t (up t i)) (up u (up u i)) g eg in
       let one : oneView t i ≡ oneView u i =
-          ap (λ v. eqb v (viewAt t (up t i)) && eqb v (viewAt t (up t (up t i)))) vi
-          ∙ (ap (λ v. eqb (viewAt u i) v && eqb (viewAt u i) (viewAt t (up t (up t i)))) vp
-          ∙ ap (λ v. eqb (viewAt u i) (viewAt u (up u i)) && eqb (viewAt u i) v) vg)
+      ap (λ v. eqb v (viewAt t (up t i)) && eqb v (viewAt t (up t (up t i)))) vi
+      ∙ (ap (λ v. eqb (viewAt u i) v && eqb (viewAt u i) (viewAt t (up t (up t i)))) vp
+      ∙ ap (λ v. eqb (viewAt u i) (viewAt u (up u i)) && eqb (viewAt u i) v) vg)
       in
       let there : onward t last (up t (up t i)) ≡ onward u last (up u (up u i)) =
-          ap (λ b. cond b (Some (up t (up t i))) (cond (extends t last (up t (up t i))) (Some last) None)) (extends-agrees (up t (up t i)) last g)
-          ∙ (ap (λ b. cond (extends u (up t (up t i)) last) (Some (up t (up t i))) (cond b (Some last) None)) (extends-agrees last (up t (up t i)) ll)
-          ∙ ap (onward u last) eg)
+      ap (λ b. cond b (Some (up t (up t i))) (cond (extends t last (up t (up t i))) (Some last) None)) (extends-agrees (up t (up t i)) last g)
+      ∙ (ap (λ b. cond (extends u (up t (up t i)) last) (Some (up t (up t i))) (cond b (Some last) None)) (extends-agrees last (up t (up t i)) ll)
+      ∙ ap (onward u last) eg)
       in
       ap (λ b. cond b (onward t last (up t (up t i))) (Some last)) one ∙ ap (λ o. cond (oneView u i) o (Some last)) there
 
@@ -109,7 +109,7 @@ module _ (t u : List Held) (place : ℕ) (same : (i : ℕ) → i < place → at 
   kept-where long = record {
     blocks = same;
     lookups = λ held id le.
-      ap (λ n. lookupFrom (min held n) t 0 id) long ∙ lookupFrom-agrees id (min held (length u)) 0 (omega arith);
+        ap (λ n. lookupFrom (min held n) t 0 id) long ∙ lookupFrom-agrees id (min held (length u)) 0 (omega arith);
     extensions = extends-agrees;
     ancestors = ancestor-agrees;
     commits = commit-agrees;

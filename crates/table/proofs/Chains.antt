@@ -59,8 +59,8 @@ module _ (t : List Held) where
   ancestor-through a b k h le =
       between t b (λ i. Linked t i → ancestor t i k ≡ ancestor t b k) (λ _. refl)
       (λ i pos e below linked.
-        let up-linked = linked-up i pos linked in
-        ancestor-above t i k (λ same. omega (arith, rounds-rise (up t i) b e up-linked, step i pos linked)) pos ∙ below up-linked) a h
+      let up-linked = linked-up i pos linked in
+      ancestor-above t i k (λ same. omega (arith, rounds-rise (up t i) b e up-linked, step i pos linked)) pos ∙ below up-linked) a h
 
   pub ancestor-at : (a b : ℕ) → extends t a b ≡ true → Linked t a → ancestor t a (roundAt t b) ≡ Some b
   ancestor-at a b h linked = ancestor-through a b (roundAt t b) h (omega arith) linked ∙ ancestor-here t b (roundAt t b) refl
@@ -71,12 +71,13 @@ module _ (t : List Held) where
     where
       root : Linked t 0 → k ≤ roundAt t 0 → (i : ℕ) × Ancestor t 0 k i
       root linked le = (0, record { extended = extends-self t 0; ofRound = omega (arith, linked .genesis) })
+
       on : (j : ℕ) → 0 < j → (Linked t (up t j) → k ≤ roundAt t (up t j) → (i : ℕ) × Ancestor t (up t j) k i) → Linked t j → k ≤ roundAt t j → (i : ℕ) × Ancestor t j k i
       on j pos below linked le =
           ⊎-elim (λ e. (j, record { extended = extends-self t j; ofRound = e }))
           (λ ne.
-            let b = below (linked-up j pos linked) (omega (arith, step j pos linked)) in
-            (b .0, record { extended = extends-through t j (up t j) (b .0) (extends-parent t j pos) (b .1 .extended); ofRound = b .1 .ofRound }))
+          let b = below (linked-up j pos linked) (omega (arith, step j pos linked)) in
+          (b .0, record { extended = extends-through t j (up t j) (b .0) (extends-parent t j pos) (b .1 .extended); ofRound = b .1 .ofRound }))
           (cases-eq (roundAt t j) k)
 
   entry-is : (last k : ℕ) → 0 < k → k ≤ roundAt t last → entryPlace t last k ≡ ancestor t last k
@@ -165,8 +166,8 @@ module _ (t : List Held) where
         record {
           rest = more .rest;
           whole =
-            ap (λ o. blockThen t o (entriesFrom m t last (k + 1))) here
-            ∙ (ap (λ bs. blockOf (at t (i .0)) ∷ bs) (more .whole) ∙ sym (ap (λ o. blockThen t o (entriesFrom n t b (k + 1)) ++ more .rest) there));
+              ap (λ o. blockThen t o (entriesFrom m t last (k + 1))) here
+              ∙ (ap (λ bs. blockOf (at t (i .0)) ∷ bs) (more .whole) ∙ sym (ap (λ o. blockThen t o (entriesFrom n t b (k + 1)) ++ more .rest) there));
         }
 
     pub entries : Entries t last
@@ -190,6 +191,6 @@ module _ (t : List Held) where
       let g = up t (up t i) in
       cond-both (oneView t i) (onward t last g) (Some last) (λ o. found o (Commits t last i))
       (λ _. cond-both (extends t g last) (Some g) (cond (extends t last g) (Some last) None) (λ o. found o (Commits t last i))
-        (λ e. record { onward = e; grandparent = λ _. extends-self t g; grows = λ linked. entries g linked .grows last e })
-        (λ _. cond-both (extends t last g) (Some last) None (λ o. found o (Commits t last i)) (λ e. stays last i (λ _. e)) (λ _. tt)))
+      (λ e. record { onward = e; grandparent = λ _. extends-self t g; grows = λ linked. entries g linked .grows last e })
+      (λ _. cond-both (extends t last g) (Some last) None (λ o. found o (Commits t last i)) (λ e. stays last i (λ _. e)) (λ _. tt)))
       (λ e. stays last i (λ one. absurd (both-ways (oneView t i) e one)))

@@ -74,8 +74,8 @@ module _ (t : List Held) where
         on i pos below =
             ⊎-elim (λ e. subst (λ o. found o (Passes t test i)) (sym (first-here t test i e)) (record { reached = extends-self i; passed = e }))
             (λ e. subst (λ o. found o (Passes t test i)) (sym (first-above t test i e pos))
-              (found-map (Passes t test (up t i)) (Passes t test i) (firstUp t test (up t i))
-                (λ j h. record { reached = extends-more i j pos (h .reached); passed = h .passed }) below)) (cases-bool (test i))
+            (found-map (Passes t test (up t i)) (Passes t test i) (firstUp t test (up t i))
+            (λ j h. record { reached = extends-more i j pos (h .reached); passed = h .passed }) below)) (cases-bool (test i))
 
     first-sought : (a b : ℕ) → extends t a b ≡ true → test b ≡ true → isSome (firstUp t test a) ≡ true
     first-sought a b h e =
@@ -85,8 +85,8 @@ module _ (t : List Held) where
   pub ancestors : (a round : ℕ) → Ancestors t a round (ancestor t a round)
   ancestors a round = record {
     right =
-      found-map (Passes t (λ i. eqb (roundAt t i) round) a) (Ancestor t a round) (ancestor t a round)
-      (λ i h. record { extended = h .reached; ofRound = eqb-true (roundAt t i) round (h .passed) }) (first-right (λ i. eqb (roundAt t i) round) a);
+        found-map (Passes t (λ i. eqb (roundAt t i) round) a) (Ancestor t a round) (ancestor t a round)
+        (λ i h. record { extended = h .reached; ofRound = eqb-true (roundAt t i) round (h .passed) }) (first-right (λ i. eqb (roundAt t i) round) a);
     sought = λ i h. first-sought (λ i. eqb (roundAt t i) round) a i (h .extended) (eq-eqb (roundAt t i) round (h .ofRound));
   }
 
