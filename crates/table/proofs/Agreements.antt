@@ -14,7 +14,7 @@ use Rattle.std.specs.declared.option.Option.the-variants.{Some, None}
 use Rattle.std.proofs.shelf.Lists.{length-set, getD-set-other}
 use Rattle.std.proofs.shelf.Tests.{cond-both}
 use Rattle.table.specs.declared.held.Held.{Held}
-use Rattle.table.specs.Places.{at, genesis, up, lookup, lookupFrom}
+use Rattle.table.specs.Places.{at, genesis, up, lookupFrom}
 use Rattle.table.specs.Ancestry.{firstWithin, extends, ancestor, roundAt, viewAt}
 use Rattle.table.specs.Committed.{Block, blockOf, blockThen, oneView, onward, commit, committedCount, entryPlace, entriesFrom, committedList}
 use Rattle.table.specs.Laws.{Ancestor, Linked, Kept}

@@ -12,7 +12,7 @@ use Rattle.std.specs.Slices.{found}
 use Rattle.std.specs.declared.option.Option.{Option}
 use Rattle.std.specs.declared.option.Option.the-variants.{Some, None}
 use Rattle.std.proofs.shelf.Lists.{append-nil}
-use Rattle.std.proofs.shelf.Tests.{ne-eqb, le-ltb, ltb-false, eqb-false, or-from, or-parts, cond-false, cases-eq, cases-bool, both-ways, cond-both}
+use Rattle.std.proofs.shelf.Tests.{ne-eqb, le-ltb, ltb-false, eqb-false, or-from, or-parts, cond-false, cases-eq, both-ways, cond-both}
 use Rattle.table.specs.declared.held.Held.{Held}
 use Rattle.table.specs.Places.{at, up}
 use Rattle.table.specs.Ancestry.{extends, ancestor, roundAt}

@@ -9,7 +9,7 @@ use lib.ListN.{length, take, getD}
 use Rattle.std.specs.Options.{isSome}
 use Rattle.std.specs.Slices.{found}
 use Rattle.std.specs.shelf.Text.{sameBytes}
-use Rattle.std.specs.declared.option.Option.the-variants.{Some, None}
+use Rattle.std.specs.declared.option.Option.the-variants.{Some}
 use Rattle.std.proofs.shelf.Equals.{sameBytes-decides}
 use Rattle.std.proofs.shelf.Lists.{getD-take, getD-default, length-take}
 use Rattle.std.proofs.shelf.Tests.{cond-both, cases-eq, both-ways}

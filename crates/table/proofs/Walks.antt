@@ -1,14 +1,14 @@
 -- The way up, step by step.
 use mathlib.Core.Bool.{Bool, true, false, cond}
 use mathlib.Core.List.{List}
-use mathlib.Core.Logic.{_⊎_, inl, inr, ⊎-elim}
+use mathlib.Core.Logic.{⊎-elim}
 use mathlib.Core.Path.{_≡_, refl, sym, _∙_, ap, subst}
 use Prim.Native.Nat.{ℕ, zero, suc, _≤_, _<_}
 use native.Mathlib.Omega.{arith}
 use lib.Dec.{eqb, ltb}
 use Rattle.std.specs.Options.{isSome}
 use Rattle.std.specs.declared.option.Option.the-variants.{Some, None}
-use Rattle.std.proofs.shelf.Tests.{eqb-true, eq-eqb, ne-eqb, ltb-true, cond-both, cases-eq}
+use Rattle.std.proofs.shelf.Tests.{eq-eqb, ne-eqb, ltb-true, cond-both, cases-eq}
 use Rattle.table.specs.declared.held.Held.{Held}
 use Rattle.table.specs.Places.{at, up}
 use Rattle.table.specs.Ancestry.{firstWithin, firstUp, extends, ancestor, roundAt}

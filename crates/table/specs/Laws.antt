@@ -3,7 +3,7 @@ use mathlib.Core.Bool.{true}
 use mathlib.Core.List.{List, _++_}
 use mathlib.Core.Logic.{_⊎_}
 use mathlib.Core.Path.{_≡_}
-use Prim.Native.Nat.{ℕ, _+_, _-_, _<_, _≤_}
+use Prim.Native.Nat.{ℕ, _+_, _<_, _≤_}
 use lib.ListN.{length, getD, set}
 use Rattle.std.specs.Options.{isSome}
 use Rattle.std.specs.Slices.{found}
@@ -93,6 +93,7 @@ pub record Commits (table : List Held) (last i next : ℕ) : Type 0 where
   -- the committed list stays or grows at its end
   pub grows : Linked table next → Beginning (committedList table last) (committedList table next)
 
+-- the laws of all tables, each whatever the table holds
 pub record Laws : Type 0 where
   pub finds : (table : List Held) (held : ℕ) (id : List ℕ) → Finds table held id (lookup table held id)
   pub ancestry : (table : List Held) → Ancestry table

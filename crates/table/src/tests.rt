@@ -37,28 +37,52 @@ fn forked() -> [Held; 8] {
 }
 
 #[test]
-fn forked_table() -> Result<(), Fail> {
+fn places() -> Result<(), Fail> {
     let mut table = forked();
-    check_eq(find(&table, 7, &[3; 32]), Some(3))?;
-    check_eq(find(&table, 3, &[3; 32]), None)?;
-    check_eq(find(&table, 99, &[9; 32]), None)?;
-    check_eq(parent_of(&table, 6), 5)?;
-    check_eq(parent_of(&table, 99), 0)?;
-    check(extends(&table, 3, 1))?;
-    check(!extends(&table, 1, 3))?;
-    check(!extends(&table, 6, 1))?;
-    check_eq(ancestor(&table, 6, Round(1)), Some(4))?;
-    check_eq(ancestor(&table, 6, Round(4)), None)?;
-    check_eq(commit(&table, 0, 3), Some(1))?;
-    check_eq(commit(&table, 2, 3), Some(2))?;
-    check_eq(commit(&table, 1, 6), None).note("a fork")?;
-    check_eq(commit(&table, 1, 5), Some(1)).note("genesis is of another view")?;
-    check_eq(committed_count(&table, 3), 3)?;
-    check_eq(entry(&table, 3, 0), None)?;
-    check_eq(entry(&table, 3, 2), Some(2))?;
-    check_eq(entry(&table, 3, 4), None)?;
-    check(hold(&mut table, 7, block(7, 1, 4, 6)))?;
+    for (held, id, place) in [(7, 3, Some(3)), (3, 3, None), (99, 9, None)] {
+        check_eq(find(&table, held, &[id; 32]), place)?;
+    }
+    for (i, parent) in [(0, 0), (3, 2), (4, 0), (99, 0)] {
+        check_eq(parent_of(&table, i), parent)?;
+    }
     check(!hold(&mut table, 8, block(8, 1, 5, 7)))?;
+    check(hold(&mut table, 7, block(7, 1, 4, 6)))?;
     check_eq(find(&table, 8, &[7; 32]), Some(7))?;
     check_eq(table[7].payload_bytes().len(), 3)
+}
+
+#[test]
+fn walks() -> Result<(), Fail> {
+    let table = forked();
+    for (a, b, answer) in [
+        (3, 3, true),
+        (3, 1, true),
+        (6, 0, true),
+        (1, 3, false),
+        (6, 1, false),
+    ] {
+        check_eq(extends(&table, a, b), answer)?;
+    }
+    for (a, round, place) in [(3, 2, Some(2)), (6, 1, Some(4)), (6, 4, None)] {
+        check_eq(ancestor(&table, a, Round(round)), place)?;
+    }
+    Ok(())
+}
+
+#[test]
+fn commits() -> Result<(), Fail> {
+    let table = forked();
+    for (last, i, next) in [
+        (0, 3, Some(1)),
+        (2, 3, Some(2)),
+        (1, 5, Some(1)),
+        (1, 6, None),
+    ] {
+        check_eq(commit(&table, last, i), next)?;
+    }
+    check_eq(committed_count(&table, 3), 3)?;
+    for (k, place) in [(0, None), (1, Some(1)), (3, Some(3)), (4, None)] {
+        check_eq(entry(&table, 3, k), place)?;
+    }
+    Ok(())
 }
