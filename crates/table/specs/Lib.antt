@@ -1,0 +1,4 @@
+pub mod Places
+pub mod Ancestry
+pub mod Committed
+pub mod Laws
