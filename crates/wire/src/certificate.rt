@@ -6,10 +6,10 @@ ghost use Rattle.wire.specs.Certificates.{countFor, certified, readCertificate
 ghost use Prim.Native.Nat.{_≤_};
 ghost use lib.ListN.{length};
 use crate::entries::entries_formed;
-use crate::parts::Part;
-use crate::parts::after;
 use crate::form::Form;
 use crate::form::quorum;
+use crate::parts::Part;
+use crate::parts::after;
 use blocks::limits::STATEMENT_BYTES;
 use blocks::statement::Statement;
 
@@ -40,11 +40,21 @@ fn certified(form: Form, statement: &Statement, bytes: &[u8]) -> bool
     let wide = form.width as usize;
     count == count_for(form.members, statement)
         && bytes.len() == STATEMENT_BYTES + 1 + count as usize * (1 + wide)
-        && entries_formed(form.members, None, wide, count, after(bytes, STATEMENT_BYTES + 1))
+        && entries_formed(
+            form.members,
+            None,
+            wide,
+            count,
+            after(bytes, STATEMENT_BYTES + 1),
+        )
 }
 
 // The certificate that the bytes are, which stand at a place of a message.
-pub(crate) fn read_certificate<'a>(form: Form, at: usize, bytes: &'a [u8]) -> Option<Certificate<'a>>
+pub(crate) fn read_certificate<'a>(
+    form: Form,
+    at: usize,
+    bytes: &'a [u8],
+) -> Option<Certificate<'a>>
     ensures { λ r. ⌜ mapped certificateTold r ≡ readCertificate form at (now (bytes .entry)) ⌝ }
 {
     if bytes.len() < STATEMENT_BYTES + 1 {
@@ -58,9 +68,6 @@ pub(crate) fn read_certificate<'a>(form: Form, at: usize, bytes: &'a [u8]) -> Op
     }
     Some(Certificate {
         statement,
-        part: Part {
-            bytes,
-            at,
-        },
+        part: Part { bytes, at },
     })
 }

@@ -31,7 +31,13 @@ fn entry_formed(n: u8, limit: Option<u16>, last: u8, entry: &[u8]) -> bool
 }
 
 // Whether `count` entries, each of a signer and `wide` bytes, have rising signers of 1 to n and values within the limit.
-pub(crate) fn entries_formed(n: u8, limit: Option<u16>, wide: usize, count: u8, entries: &[u8]) -> bool
+pub(crate) fn entries_formed(
+    n: u8,
+    limit: Option<u16>,
+    wide: usize,
+    count: u8,
+    entries: &[u8],
+) -> bool
     requires wide { ⌜ wide ≤ 65537 ⌝ }
     requires long { ⌜ length (now entries) ≡ count * (1 + wide) ⌝ }
     ensures { λ r. ⌜ r ≡ entriesFormed n limit wide count 0 (now (entries .entry)) ⌝ }

@@ -185,10 +185,7 @@ fn read_proposal<'a>(form: Form, bytes: &'a [u8]) -> Option<Message<'a>>
     let Some(certificate) = read_certificate(form, 1 + end, after(bytes, end)) else {
         return None;
     };
-    Some(Message::Proposal(Proposal {
-        block,
-        certificate,
-    }))
+    Some(Message::Proposal(Proposal { block, certificate }))
 }
 
 // What follows the kind, read as a message of that kind.
