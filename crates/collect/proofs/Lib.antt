@@ -1,0 +1,5 @@
+mod Pasting
+mod Entries
+mod Certifying
+mod Gathering
+mod Soundness

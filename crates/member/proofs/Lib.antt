@@ -1,0 +1,4 @@
+pub mod Prepared
+pub mod Rooms
+pub mod Laid
+pub mod Planned
