@@ -2,3 +2,4 @@ pub mod Prepared
 pub mod Rooms
 pub mod Laid
 pub mod Planned
+pub mod Texts

@@ -14,4 +14,5 @@ pub mod Accepting
 pub mod BlockRules
 pub mod Deliver
 pub mod Entry
+pub mod Sheet
 pub mod Calls
