@@ -1,6 +1,6 @@
 -- The kept shares, written one after the other.
 use mathlib.Core.List.{List, [], _∷_, _++_, map}
-use mathlib.Core.Path.{_≡_, refl, sym, _∙_, ap}
+use mathlib.Core.Path.{_≡_, sym, _∙_, ap}
 use Prim.Native.Nat.{ℕ, _+_, _≤_, _<_}
 use native.Mathlib.Omega.{arith}
 use lib.ListN.{length, take, drop, set}
@@ -38,6 +38,3 @@ module _ {old out : List Share} {count : ℕ} {all left : List (ℕ × KeptShare
       let n : count ≡ length (map shareAt all) = omega (arith, lengths, ap length e, length-map all shareAt) in
       let front : take count out ≡ map shareAt all = sym (append-nil (take count out)) ∙ (ap (λ (v : List (ℕ × KeptShare)). take count out ++ map shareAt v) (sym e) ∙ w .front) in
       (n, sym (take-append-drop count out) ∙ (ap (λ (t : List Share). t ++ drop count out) front ∙ (ap (λ (d : List Share). map shareAt all ++ d) (w .back) ∙ ap (λ m. map shareAt all ++ drop m old) n)))
-
-pub none-written : (old : List Share) (all : List (ℕ × KeptShare)) → Written old old 0 all all
-none-written old all = record { within = omega arith; front = refl; back = refl }
