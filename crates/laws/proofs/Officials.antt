@@ -1,14 +1,14 @@
 -- Which certificates are official, from the rules that are not broken.
-use mathlib.Core.Bool.{Bool, true, false, cond, not, _&&_, _||_}
+use mathlib.Core.Bool.{Bool, true, false, not, _||_}
 use mathlib.Core.List.{List}
 use mathlib.Core.Logic.{_⊎_, inl, inr}
 use mathlib.Core.Path.{_≡_, refl, sym, _∙_}
-use Prim.Native.Nat.{ℕ, _+_, _<_, _≤_}
+use Prim.Native.Nat.{ℕ, _<_}
 use native.Mathlib.Omega.{arith}
 use lib.Dec.{eqb, ltb, leb}
 use Rattle.std.specs.declared.option.Option.{Option}
 use Rattle.std.specs.declared.option.Option.the-variants.{Some, None}
-use Rattle.std.proofs.shelf.Tests.{both-ways, not-true, not-false, and-parts, and-from, and-cases, or-parts, eqb-true, eqb-false, eq-eqb, ltb-true, ltb-false, lt-ltb, cases-bool, cond-true, cond-false}
+use Rattle.std.proofs.shelf.Tests.{both-ways, not-true, not-false, and-parts, and-cases, or-parts, eqb-true, eqb-false, ltb-true, ltb-false, lt-ltb, cases-bool, cond-true, cond-false}
 use Rattle.blocks.specs.declared.head.Head.{Head}
 use Rattle.blocks.specs.declared.rank.Kind.{Kind}
 use Rattle.blocks.specs.declared.rank.Kind.the-variants.{Regular, Fallback}
@@ -73,11 +73,21 @@ in-timeout m v s broken near rules f =
     omega arith
 
 module _ (m : Member) (n : ℕ) (table : List Held) (h : Head) (s : Statement) (near : ahead m (h .view) ≡ false) (rules : proposalBreaks n table (m .held) h s ≡ false) where
-  standing : stands h s ≡ true
-  standing =
+  pub following : follows h s ≡ true
+  following =
       let after-led = or-parts (not (led n h)) (not (follows h s) || (not (stands h s) || mismatched table (m .held) s)) rules .1 in
-      let after-follows = or-parts (not (follows h s)) (not (stands h s) || mismatched table (m .held) s) after-led .1 in
-      not-false _ (or-parts (not (stands h s)) (mismatched table (m .held) s) after-follows .0)
+      not-false _ (or-parts (not (follows h s)) (not (stands h s) || mismatched table (m .held) s) after-led .0)
+
+  rest : (not (stands h s) || mismatched table (m .held) s) ≡ false
+  rest =
+      let after-led = or-parts (not (led n h)) (not (follows h s) || (not (stands h s) || mismatched table (m .held) s)) rules .1 in
+      or-parts (not (follows h s)) (not (stands h s) || mismatched table (m .held) s) after-led .1
+
+  standing : stands h s ≡ true
+  standing = not-false _ (or-parts (not (stands h s)) (mismatched table (m .held) s) rest .0)
+
+  pub matching : mismatched table (m .held) s ≡ false
+  matching = or-parts (not (stands h s)) (mismatched table (m .held) s) rest .1
 
   -- under a block of this view's fallback above height 1 the certificate is not seen
   above : Tall h → seesUnder m h ≡ true → ltb 1 (h .height) ≡ true → h .view .0 < m .phase .view .0

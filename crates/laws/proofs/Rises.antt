@@ -1,10 +1,13 @@
 -- What a phase or a chain becomes is not below what it was.
-use mathlib.Core.Bool.{Bool, true, false, cond, _&&_}
+use mathlib.Core.Bool.{Bool, true, false, cond}
 use mathlib.Core.List.{List}
-use mathlib.Core.Path.{_≡_}
+use mathlib.Core.Path.{_≡_, sym, ap, subst}
 use Prim.Native.Nat.{ℕ, _≤_, _<_}
 use native.Mathlib.Omega.{arith}
 use lib.Dec.{eqb, ltb}
+use lib.ListN.{getD}
+use lib.Seq.{getD-set-other}
+use Rattle.std.specs.declared.option.Option.the-variants.{Some, None}
 use Rattle.std.proofs.shelf.Tests.{cond-both, and-parts, ltb-true}
 use Rattle.std.proofs.shelf.Ways.{tells}
 use Rattle.blocks.specs.declared.head.Head.{Head}
@@ -16,11 +19,14 @@ use Rattle.blocks.specs.Statements.{rankOf}
 use Rattle.blocks.proofs.Ordered.{ordered}
 use Rattle.table.specs.declared.held.Held.{Held}
 use Rattle.member.specs.declared.state.Chain.{Chain}
+use Rattle.member.specs.declared.state.Member.{Member}
 use Rattle.member.specs.declared.state.Phase.{Phase}
+use Rattle.member.specs.declared.state.Proposed.{Proposed}
 use Rattle.member.specs.declared.state.Row.{Row}
-use Rattle.member.specs.Exit.{exitPhase}
-use Rattle.member.specs.See.{isFallback, see, raises, higherRank}
-use Rattle.member.specs.States.{rowOf}
+use Rattle.member.specs.Exit.{exitPhase, exitTo}
+use Rattle.member.specs.Propose.{lessProposed}
+use Rattle.member.specs.See.{isFallback, see, raises}
+use Rattle.member.specs.States.{rowOf, winnerOf}
 use Rattle.member.specs.Votes.{votes, votesRegular, votesFallback, votedPhase, respectsLock}
 use Rattle.member.specs.Words.{isSteady, isInFallback}
 
@@ -73,4 +79,31 @@ pub exit-later : (p : Phase) (r : Row) → Later p (exitPhase p r)
 exit-later p r = record {
   views = omega arith;
   voted = cond-both (isInFallback (p .stage)) _ (p .voted) (λ (v : Round). p .voted .0 ≤ v .0) (λ e. omega arith) (λ e. omega arith);
+}
+
+-- what was proposed last, and who won the views that ended
+pub record Past-kept (m m′ : Member) : Type 0 where
+  pub proposed : lessProposed (m′ .proposed) (m .proposed) ≡ false
+  pub winners : (v : ℕ) → v < m .phase .view .0 → winnerOf m′ v ≡ winnerOf m v
+
+not-proposed-below : (p : Proposed) → lessProposed p p ≡ false
+not-proposed-below p = grind (arith, tells)
+
+pub above-not-proposed-below : (p q : Proposed) → lessProposed p q ≡ true → lessProposed q p ≡ false
+above-not-proposed-below p q e = grind (arith, tells)
+
+pub proposed-through : (p q r : Proposed) → lessProposed q p ≡ false → lessProposed r q ≡ false → lessProposed r p ≡ false
+proposed-through p q r a b = grind (arith, tells)
+
+pub past-kept : (m m′ : Member) → m′ .proposed ≡ m .proposed → m′ .winners ≡ m .winners → Past-kept m m′
+past-kept m m′ p w = record {
+  proposed = subst (λ x. lessProposed x (m .proposed) ≡ false) (sym p) (not-proposed-below (m .proposed));
+  winners = λ v low. ap (λ x. getD x v None) w;
+}
+
+-- at exit the winner of the view that ends is noted
+pub exit-kept : (m : Member) (chain : Chain) (w : ℕ) → Past-kept m (exitTo m chain w)
+exit-kept m chain w = record {
+  proposed = not-proposed-below (m .proposed);
+  winners = λ v low. getD-set-other (m .winners) (m .phase .view .0) v (Some w) None (omega arith);
 }

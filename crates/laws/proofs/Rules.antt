@@ -34,7 +34,7 @@ settles m l rs done P refuses does = by-first (firstBroken rs) refl
     by-first None e = does e (none-broken rs e)
     by-first (Some x) e = refuses x
 
--- a rule of a number up to n is broken, and so are the numbers of those before it
+-- a rule is broken, and neither its number nor one of those before it is above n
 pub data Broken (n : ℕ) : List Rule → Type 0 where
   here : {r : Rule} {rs : List Rule} → r .broken ≡ true → refusalNumber (r .refusal) ≤ n → Broken n (r ∷ rs)
   later : {r : Rule} {rs : List Rule} → refusalNumber (r .refusal) ≤ n → Broken n rs → Broken n (r ∷ rs)

@@ -1,8 +1,8 @@
 -- A fallback certificate of this view leaves the chain as it was, and an unendorsed one is refused.
-use mathlib.Core.Bool.{true, false, not}
-use mathlib.Core.List.{List, [], _∷_}
+use mathlib.Core.Bool.{true, not}
+use mathlib.Core.List.{List}
 use mathlib.Core.Path.{_≡_, refl, subst, sym, ap, _∙_}
-use Prim.Native.Nat.{ℕ, _≤_}
+use Prim.Native.Nat.{ℕ}
 use native.Mathlib.Omega.{arith}
 use Rattle.std.specs.declared.option.Option.{Option}
 use Rattle.std.specs.declared.option.Option.the-variants.{Some, None}
@@ -19,7 +19,7 @@ use Rattle.member.specs.declared.state.Member.{Member}
 use Rattle.member.specs.declared.types.Refusal.{Refusal}
 use Rattle.member.specs.declared.types.Refusal.the-variants.{Sizes}
 use Rattle.member.specs.Deliver.{ofFallback, rulesFor, take-up, deliverRead}
-use Rattle.member.specs.Rules.{Rule, rule, firstBroken, settled}
+use Rattle.member.specs.Rules.{firstBroken, settled}
 use Rattle.member.specs.See.{isFallback, unendorsed}
 use Rattle.member.specs.Sizes.{sized, lengthsOf}
 use Rattle.member.specs.States.{Lent, Left}

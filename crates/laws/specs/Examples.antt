@@ -1,15 +1,10 @@
 -- Nine worked examples of the rules.
-use mathlib.Core.Bool.{Bool, true, false}
-use mathlib.Core.List.{List, [], _∷_, _++_}
+use mathlib.Core.List.{List, [], _∷_}
 use mathlib.Core.Path.{_≡_}
 use Prim.Native.Nat.{ℕ}
-use lib.ListN.{replicate, set}
-use Rattle.std.specs.declared.option.Option.{Option}
-use Rattle.std.specs.declared.option.Option.the-variants.{Some, None}
+use lib.ListN.{replicate}
 use Rattle.blocks.specs.declared.rank.Kind.{Kind}
 use Rattle.blocks.specs.declared.rank.Kind.the-variants.{Regular, Fallback}
-use Rattle.blocks.specs.declared.rank.Rank.{Rank}
-use Rattle.blocks.specs.declared.statement.Statement.{Statement}
 use Rattle.blocks.specs.Examples.{Examples as RankExamples}
 use Rattle.blocks.specs.Ranks.{view, round}
 use Rattle.coin.specs.Examples.{Examples as CoinExamples}
@@ -18,7 +13,6 @@ use Rattle.table.specs.declared.held.Held.{Held}
 use Rattle.table.specs.Places.{genesis, statementOf}
 use Rattle.tally.specs.Example.{Third-reaches}
 use Rattle.wire.specs.Examples.{Examples as QuorumExamples}
-use Rattle.member.specs.declared.state.Chain.{Chain}
 use Rattle.member.specs.declared.state.Member.{Member}
 use Rattle.member.specs.declared.types.Refusal.the-variants.{Counted}
 use Rattle.member.specs.Exit.{entered, exit}

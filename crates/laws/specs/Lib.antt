@@ -4,3 +4,4 @@ pub mod Unchanged
 pub mod Rising
 pub mod Signing
 pub mod Official
+pub mod Growing

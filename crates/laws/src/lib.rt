@@ -1,5 +1,6 @@
 // What the rules of a member come to, in the subject's words.
 ghost use Rattle.laws.specs.Examples.{Examples};
+ghost use Rattle.laws.specs.Growing.{Committed-grows};
 ghost use Rattle.laws.specs.Official.{Only-official};
 ghost use Rattle.laws.specs.Rising.{Never-falls};
 ghost use Rattle.laws.specs.Signing.{Signs-only-due};
@@ -21,7 +22,8 @@ pub fn refused_changes_nothing<A: Attestor, C: Coin>() -> u8
     0
 }
 
-// Neither the view nor the voted round, the round, the lock or the highest certificate falls, over any calls.
+// Over any calls, neither the view nor the voted round, the round, the lock, the highest certificate or what was proposed last falls, and noted
+// winners stay noted.
 pub fn never_falls<A: Attestor, C: Coin>() -> u8
     ensures { λ _. ⌜ Never-falls A C A·Attestor C·Coin ⌝ }
 {
@@ -38,6 +40,13 @@ pub fn signs_only_due<A: Attestor, C: Coin>() -> u8
 // The round, the lock, the highest certificate and the last committed block change only by a certificate that is regular or endorsed.
 pub fn only_official<A: Attestor, C: Coin>() -> u8
     ensures { λ _. ⌜ Only-official A C A·Attestor C·Coin ⌝ }
+{
+    0
+}
+
+// From set up on, calls only add to the committed blocks, each of which names the one before as its parent.
+pub fn committed_grows<A: Attestor, C: Coin>() -> u8
+    ensures { λ _. ⌜ Committed-grows A C A·Attestor C·Coin ⌝ }
 {
     0
 }

@@ -3,3 +3,4 @@ pub mod Rooms
 pub mod Laid
 pub mod Planned
 pub mod Texts
+pub mod Sheets

@@ -1,8 +1,8 @@
 -- The text sheet: ten lines of a key and its value.
 use mathlib.Core.Bool.{Bool, cond, _&&_}
-use mathlib.Core.List.{List, [], _∷_, _++_}
+use mathlib.Core.List.{List, _++_}
 use mathlib.Core.Path.{_≡_}
-use Prim.Native.Nat.{ℕ, _+_}
+use Prim.Native.Nat.{ℕ, _+_, _≤_}
 use lib.Chars.{codes}
 use lib.Dec.{eqb}
 use lib.ListN.{length, take}
@@ -33,7 +33,7 @@ stageWord TimedOut = codes "timedout"
 stageWord InFallback = codes "fallback"
 
 -- view, kind and round
-abbrev pub rankText : Rank → List ℕ
+unfoldable pub rankText : Rank → List ℕ
 rankText r = decimal (r .view .0) ++ codes "," ++ decimal (kindNumber (r .kind)) ++ codes "," ++ decimal (r .round .0)
 
 -- key=value and a newline
@@ -69,7 +69,11 @@ sheetOut m table out = cond (sheetFits m table out) (overlay out (sheetText m ta
 abbrev pub written : Text → List ℕ
 written t = take (t .end) (t .bytes)
 
--- the text after it is the one before and the part
-pub record Adds (before : Text) (part : List ℕ) (after : Text) : Type 0 where
+-- the text after is the one before and the part
+pub record Longer (before : Text) (part : List ℕ) (after : Text) : Type 0 where
   pub text : written after ≡ written before ++ part
   pub end : after .end ≡ before .end + length part
+
+-- the part is added where it has room
+abbrev pub Adds : Text → List ℕ → Text → Type 0
+Adds before part after = before .end + length part ≤ sheetBytes → Longer before part after

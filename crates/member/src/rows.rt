@@ -6,7 +6,7 @@ ghost use Prim.Native.Nat.{_≤_, _<_};
 ghost use lib.ListN.{length};
 ghost use Rattle.member.specs.Record.{aboveRecorded, recorded, records, recordRows};
 ghost use Rattle.member.specs.See.{raises};
-ghost use Rattle.member.specs.States.{emptyRow, rowOf, setRow};
+ghost use Rattle.member.specs.States.{emptyRow, rowOf};
 ghost use Rattle.member.specs.Votes.{votedRow};
 use crate::state::Row;
 use blocks::head::Head;
@@ -72,4 +72,17 @@ pub(crate) fn records(rows: &[Row; 13], statement: &Statement) -> bool
     ensures { λ r. ⌜ r ≡ records (now (rows .entry)) (now (statement .entry)) ⌝ }
 {
     row_of(rows, statement.proposer).takes(statement)
+}
+
+// A fallback certificate of this view is kept in its proposer's row, if it ranks above the one there.
+pub(crate) fn record_in(rows: &mut [Row; 13], statement: &Statement)
+    ensures { λ _. ⌜ now (rows .exit) ≡ recordRows (now (rows .entry)) (now (statement .entry)) ⌝ }
+{
+    let i = statement.proposer.saturating_sub(1) as usize;
+    if i >= 13 {
+        return;
+    }
+    if rows[i].takes(statement) {
+        rows[i].record(statement);
+    }
 }

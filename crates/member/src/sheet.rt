@@ -1,7 +1,6 @@
 // The text sheet: how a member stands, in ten lines.
 ghost use mathlib.Core.Path.{_≡_};
-ghost use Prim.Native.Nat.{_+_, _^_, _<_, _≤_};
-ghost use lib.Chars.{codes};
+ghost use Prim.Native.Nat.{_≤_};
 ghost use lib.ListN.{length};
 ghost use Rattle.std.specs.Vec.{made};
 ghost use Rattle.std.specs.Written.{decimal};
@@ -18,8 +17,7 @@ use table::places::block_at;
 
 impl Stage {
     pub(crate) fn word(self) -> &'static [u8]
-        ensures word { λ r. ⌜ now r ≡ stageWord self ⌝ }
-        ensures short { λ r. ⌜ length (now r) ≤ 8 ⌝ }
+        ensures { λ r. ⌜ now r ≡ stageWord self ⌝ }
     {
         match self {
             Stage::Steady => b"steady",
@@ -31,9 +29,7 @@ impl Stage {
 
 impl Text {
     fn stage_line(&mut self, key: &[u8], stage: Stage)
-        requires { ⌜ now self .end + length (now key) + 10 ≤ 256 ⌝ }
-        ensures adds { λ _. ⌜ Adds (now (self .entry)) (line (now (key .entry)) (stageWord stage)) (now (self .exit)) ⌝ }
-        ensures short { λ _. ⌜ now (self .exit) .end ≤ now (self .entry) .end + length (now (key .entry)) + 10 ⌝ }
+        ensures { λ _. ⌜ Adds (now (self .entry)) (line (now (key .entry)) (stageWord stage)) (now (self .exit)) ⌝ }
     {
         self.push(key);
         self.push(b"=");
@@ -41,11 +37,9 @@ impl Text {
         self.push(b"\n");
     }
 
-    fn number_line(&mut self, key: &[u8], n: usize)
-        requires { ⌜ now self .end + length (now key) + 22 ≤ 256 ⌝ }
+    fn size_line(&mut self, key: &[u8], n: usize)
         ensures adds { λ _. ⌜ Adds (now (self .entry)) (line (now (key .entry)) (decimal n)) (now (self .exit)) ⌝ }
-        ensures short { λ _. ⌜ (n < 2 ^ 32 → now (self .exit) .end ≤ now (self .entry) .end + length (now (key .entry)) + 12) ⌝ }
-        ensures most { λ _. ⌜ now (self .exit) .end ≤ now (self .entry) .end + length (now (key .entry)) + 22 ⌝ }
+        ensures most { λ _. ⌜ length (decimal n) ≤ 20 ⌝ }
     {
         self.push(key);
         self.push(b"=");
@@ -53,10 +47,16 @@ impl Text {
         self.push(b"\n");
     }
 
+    fn number_line(&mut self, key: &[u8], n: u32)
+        ensures adds { λ _. ⌜ Adds (now (self .entry)) (line (now (key .entry)) (decimal n)) (now (self .exit)) ⌝ }
+        ensures most { λ _. ⌜ length (decimal n) ≤ 10 ⌝ }
+    {
+        self.size_line(key, n as usize);
+    }
+
     fn push_rank(&mut self, rank: &Rank)
-        requires { ⌜ now self .end + 33 ≤ 256 ⌝ }
         ensures adds { λ _. ⌜ Adds (now (self .entry)) (rankText (now (rank .entry))) (now (self .exit)) ⌝ }
-        ensures short { λ _. ⌜ now (self .exit) .end ≤ now (self .entry) .end + 23 ⌝ }
+        ensures most { λ _. ⌜ length (rankText (now (rank .entry))) ≤ 23 ⌝ }
     {
         self.push_decimal(rank.view.0 as usize);
         self.push(b",");
@@ -66,9 +66,8 @@ impl Text {
     }
 
     fn rank_line(&mut self, key: &[u8], rank: &Rank)
-        requires { ⌜ now self .end + length (now key) + 34 ≤ 256 ⌝ }
         ensures adds { λ _. ⌜ Adds (now (self .entry)) (line (now (key .entry)) (rankText (now (rank .entry)))) (now (self .exit)) ⌝ }
-        ensures short { λ _. ⌜ now (self .exit) .end ≤ now (self .entry) .end + length (now (key .entry)) + 25 ⌝ }
+        ensures most { λ _. ⌜ length (rankText (now (rank .entry))) ≤ 23 ⌝ }
     {
         self.push(key);
         self.push(b"=");
@@ -82,20 +81,20 @@ impl Member {
     fn lines(&self, table: &[Held]) -> Text
         ensures text { λ r. ⌜ written r ≡ sheetText (now (self .entry)) (now (table .entry)) ⌝ }
         ensures end { λ r. ⌜ r .end ≡ length (sheetText (now (self .entry)) (now (table .entry))) ⌝ }
-        ensures short { λ r. ⌜ r .end ≤ 256 ⌝ }
+        ensures within { λ r. ⌜ r .end ≤ 256 ⌝ }
     {
         let mut text = Text::new();
-        text.number_line(b"member", self.site.own as usize);
-        text.number_line(b"members", self.site.members as usize);
-        text.number_line(b"view", self.phase.view.0 as usize);
+        text.number_line(b"member", self.site.own as u32);
+        text.number_line(b"members", self.site.members as u32);
+        text.number_line(b"view", self.phase.view.0);
         text.stage_line(b"stage", self.phase.stage);
-        text.number_line(b"round", self.chain.round.0 as usize);
-        text.number_line(b"voted", self.phase.voted.0 as usize);
+        text.number_line(b"round", self.chain.round.0);
+        text.number_line(b"voted", self.phase.voted.0);
         text.rank_line(b"lock", &self.chain.lock);
         text.rank_line(b"high", &self.chain.high.rank());
-        text.number_line(b"blocks", self.held);
+        text.size_line(b"blocks", self.held);
         let committed = block_at(table, self.chain.last).head.round;
-        text.number_line(b"committed", committed.0 as usize);
+        text.number_line(b"committed", committed.0);
         text
     }
 

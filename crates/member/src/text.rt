@@ -1,8 +1,7 @@
 // A text that is written part after part.
 ghost use mathlib.Core.List.{[]};
 ghost use mathlib.Core.Path.{_≡_};
-ghost use Prim.Native.Nat.{_+_, _^_, _<_, _≤_};
-ghost use lib.ListN.{length};
+ghost use Prim.Native.Nat.{_≤_};
 ghost use Rattle.std.specs.Written.{decimal};
 ghost use Rattle.member.specs.Sheet.{written, Adds};
 use blocks::layout::put;
@@ -35,31 +34,20 @@ impl Text {
         &self.bytes[0..self.end]
     }
 
+    // Adds a part that has room.
     pub(crate) fn push(&mut self, part: &[u8])
-        requires { ⌜ now self .end + length (now part) ≤ 256 ⌝ }
         ensures { λ _. ⌜ Adds (now (self .entry)) (now (part .entry)) (now (self .exit)) ⌝ }
     {
         self.end = put(&mut self.bytes, self.end, part);
     }
 
-    fn push_digits(&mut self, n: usize)
-        requires { ⌜ now self .end + length (decimal n) ≤ 256 ⌝ }
+    // A number in decimal, without leading zeros.
+    pub(crate) fn push_decimal(&mut self, n: usize)
         ensures { λ _. ⌜ Adds (now (self .entry)) (decimal n) (now (self .exit)) ⌝ }
     {
         if n >= 10 {
-            self.push_digits(n / 10);
+            self.push_decimal(n / 10);
         }
         self.push(&[b'0' + (n % 10) as u8]);
-    }
-
-    // A number in decimal, without leading zeros: at most 20 digits, or 10 of one of 32 bits.
-    pub(crate) fn push_decimal(&mut self, n: usize)
-        requires { ⌜ now self .end + 20 ≤ 256 ⌝ }
-        ensures adds { λ _. ⌜ Adds (now (self .entry)) (decimal n) (now (self .exit)) ⌝ }
-        ensures digit { λ _. ⌜ (n < 10 → now (self .exit) .end ≤ now (self .entry) .end + 1) ⌝ }
-        ensures short { λ _. ⌜ (n < 2 ^ 32 → now (self .exit) .end ≤ now (self .entry) .end + 10) ⌝ }
-        ensures most { λ _. ⌜ now (self .exit) .end ≤ now (self .entry) .end + 20 ⌝ }
-    {
-        self.push_digits(n);
     }
 }

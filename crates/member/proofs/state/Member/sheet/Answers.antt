@@ -14,9 +14,9 @@ returns c =
     let table = c .args .table .now in
     let out = c .args .out .now in
     let here : sheetFits m table out ≡ true = and-from _ _ (eq-eqb _ _ (c .if-table-self .left)) (eq-eqb _ _ (omega arith)) in
-    let w = wrote-as (sheetText m table) _ (c .written .ensures ∙ c .lines-text .ensures .text) (wrote-none out) (omega (arith, c .lines-text .ensures .end, c .lines-text .ensures .short)) (c .put .ensures .bytes) (c .put .ensures .end) in
+    let w = wrote-as (sheetText m table) _ (c .written .ensures ∙ c .lines-text .ensures .text) (wrote-none out) (omega (arith, c .lines-text .ensures .end, c .lines-text .ensures .within)) (c .put .ensures .bytes) (c .put .ensures .end) in
     record {
       answer = ap Ok (w .end) ∙ sym (cond-true _ _ _ here);
       bytes = w .bytes ∙ sym (cond-true _ _ _ here);
-      within = omega (arith, w .end, c .lines-text .ensures .end, c .lines-text .ensures .short);
+      within = omega (arith, w .end, c .lines-text .ensures .end, c .lines-text .ensures .within);
     }

@@ -1,10 +1,6 @@
 use native.Mathlib.Omega.{arith}
-use Rattle.member.proofs.Texts.{adds-line}
+use Rattle.std.proofs.shelf.Decimals.{length-decimal-le}
 use Rattle.member.proofs.text.Text.number_line.Needs as need
 
 pub returns : need.returns
-returns c = record {
-  adds = adds-line (c .push .ensures) (c .push-2 .ensures) (c .push-decimal .ensures .adds) (c .push-3 .ensures);
-  short = λ h. omega (arith, c .push-decimal .ensures .short h);
-  most = omega arith;
-}
+returns c = record { adds = c .size-line .ensures .adds; most = length-decimal-le 10 (c .args .n) (omega arith) (omega arith) (omega arith) }
