@@ -1,4 +1,6 @@
 // Attestors: who signed which words. The trait with its meaning, and two implementations of it.
+#![tactic(auto)]
+
 pub mod attestor;
 pub mod book;
 mod compare;

@@ -1,3 +1,5 @@
 // Tests of the crate attest, apart from it so that it is proved once.
+#![tactic(auto)]
+
 #[cfg(test)]
 mod tests;

@@ -1,4 +1,6 @@
 // Blocks, by what is said of them: views, rounds, ranks, statements, heads and ids.
+#![tactic(auto)]
+
 ghost use Rattle.blocks.specs.Examples.{Examples};
 ghost use Rattle.blocks.specs.Ranks.{RanksOrdered};
 ghost use Rattle.blocks.specs.RoundTrips.{HeadsRoundTrip, StatementsRoundTrip};

@@ -1,4 +1,6 @@
 // Coins: f + 1 shares of one view elect a member, and any f + 1 shares of a sound dealing elect the same one.
+#![tactic(auto)]
+
 ghost use Rattle.std.specs.Prelude.{◌≡◌, ℕ, ◌<◌, ◌≤◌, List};
 ghost use Rattle.coin.specs.declared.shares.Share.{Share};
 ghost use Rattle.coin.specs.Examples.{Examples};

@@ -1,4 +1,6 @@
 // What a member's four tallies keep, and the certificates that are built of it.
+#![tactic(auto)]
+
 pub mod build;
 pub mod items;
 pub mod laws;

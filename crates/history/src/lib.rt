@@ -1,5 +1,7 @@
 // Why a member's moves keep the voting rules: theorems about every history of moves, over any type of blocks. Each is the contract of a
 // function; docs/PROOF.md tells the argument.
+#![tactic(auto)]
+
 ghost use Rattle.safety.specs.Theorems.{OneChain};
 ghost use Rattle.history.specs.Theorems.{
   HistoryKeepsTheRules,

@@ -1,4 +1,6 @@
 // What the rules of a member come to, in the subject's words.
+#![tactic(auto)]
+
 ghost use Rattle.laws.specs.Examples.{Examples};
 ghost use Rattle.laws.specs.Growing.{CommittedGrows};
 ghost use Rattle.laws.specs.Official.{OnlyOfficial};

@@ -1,4 +1,6 @@
 // One lot's way through the ledger, printed step by step.
+#![tactic(auto)]
+
 use walkthrough::chapters::{block, book, coins, damages, members, messages, tags, timeouts};
 use walkthrough::fault::Fault;
 

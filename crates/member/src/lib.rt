@@ -1,4 +1,6 @@
 // One member of the group: its state, its rules and its calls.
+#![tactic(auto)]
+
 pub mod entry;
 pub mod exit;
 pub mod plan;

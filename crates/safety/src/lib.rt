@@ -1,5 +1,7 @@
 // Why the voting rules give one chain: theorems about every run whose honest members keep the rules, over any type of blocks. Each is the
 // contract of a function; docs/PROOF.md tells the argument.
+#![tactic(auto)]
+
 ghost use Rattle.safety.specs.Rules.{Lawful};
 ghost use Rattle.safety.specs.Theorems.{
   QuorumsMeet,

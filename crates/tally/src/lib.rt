@@ -1,4 +1,6 @@
 // One tally for every kind of item: a place for each member, and a threshold of items that are alike.
+#![tactic(auto)]
+
 mod laws;
 mod likeness;
 mod numbers;

@@ -1,4 +1,6 @@
 // One lot's way through the ledger, from a payload to messages, as text for a reader.
+#![tactic(auto)]
+
 pub mod chapters;
 pub mod fault;
 pub mod hex;

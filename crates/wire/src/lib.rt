@@ -1,4 +1,6 @@
 // The wire: certificates and the seven messages, read and written.
+#![tactic(auto)]
+
 pub mod certificate;
 pub mod entries;
 pub mod examples;

@@ -9,6 +9,6 @@ returns c =
     let k : (c.args.at + length c.args.field.now) - c.args.at ≡ length c.args.field.now = omega arith in
     let here : fits c.args.out.now c.args.at c.args.field.now ≡ true = le-leb _ _ (omega arith) in
     record {
-      bytes = rw (here, k, c.copy-from-slice.ensures.after, drop-drop (length c.args.field.now) c.args.at c.args.out.now);
+      bytes = rw (here, k, c.copy_from_slice.ensures.after, drop-drop (length c.args.field.now) c.args.at c.args.out.now);
       end = rw here;
     }

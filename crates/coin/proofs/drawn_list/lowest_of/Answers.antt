@@ -8,7 +8,7 @@ pub loop-share-preserved : goal.loop-share-preserved
 loop-share-preserved c =
     let xs = c.args.shares.now in
     let i = c.loop-share.share-index in
-    ap (λ b. lowest b (drop (i + 1) xs)) c.lower-of-best.ensures ∙ sym (at_drop_more (lowest c.loop-share.best) xs i nobody c.loop-share-test.true) ∙ c.loop-share.invariant
+    ap (λ b. lowest b (drop (i + 1) xs)) c.lower_of-best.ensures ∙ sym (at_drop_more (lowest c.loop-share.best) xs i nobody c.loop-share-test.true) ∙ c.loop-share.invariant
 
 pub returns : goal.returns
 returns c = sym (at_drop_all (lowest c.loop-share.best) c.args.shares.now c.loop-share.share-index c.loop-share-test.false) ∙ c.loop-share.invariant

@@ -23,8 +23,8 @@ loop-other-preserved t c =
     next_mapped (reduce (get_or xs 0 nobody)) c.loop-other.rest (take (length xs - 1) (drop 1 xs)) c.loop-other.other-index c.loop-other.invariant
     c.reduced.result (omega arith) (omega arith) c.reduced.ensures
 
-pub value-at-zero-slope-requires : goal.value-at-zero-slope-requires
-value-at-zero-slope-requires t c =
+pub value_at_zero-slope-requires : goal.value_at_zero-slope-requires
+value_at_zero-slope-requires t c =
     let xs = c.args.points.now in
     let first = get_or xs 0 nobody in
     let rest = take (length xs - 1) (drop 1 xs) in
@@ -41,8 +41,8 @@ returns t c =
     let rest = take (length xs - 1) (drop 1 xs) in
     let some : 1 ≤ length xs = search rules in
     record {
-      is = c.from_slope.ensures.is ∙ at_zero_step xs first rest c.loop-other.rest c.value-at-zero-slope.result (whole nobody xs some)
+      is = c.from_slope.ensures.is ∙ at_zero_step xs first rest c.loop-other.rest c.value_at_zero-slope.result (whole nobody xs some)
           (all_mapped (reduce first) c.loop-other.rest rest c.loop-other.other-index c.loop-other.invariant (omega arith))
-          c.value-at-zero-slope.ensures.is;
+          c.value_at_zero-slope.ensures.is;
       below = c.from_slope.ensures.below;
     }

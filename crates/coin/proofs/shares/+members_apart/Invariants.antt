@@ -3,8 +3,8 @@ use Rattle.std.specs.List.{AllByRecursion as All}
 use Rattle.coin.specs.Shares.{Other}
 use Rattle.coin.proofs.shares.+members_apart.Given as goal
 
-abbrev pub decreases-members-apart : goal.decreases-members-apart
-decreases-members-apart l = length l.shares.now
+abbrev pub decreases-members_apart : goal.decreases-members_apart
+decreases-members_apart l = length l.shares.now
 
 abbrev pub invariant-loop-other : goal.invariant-loop-other
 invariant-loop-other l = All (Other l.first) (take l.other-index l.rest)

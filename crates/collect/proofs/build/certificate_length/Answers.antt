@@ -4,5 +4,5 @@ use Rattle.collect.proofs.build.certificate_length.Goals as goal
 
 pub returns : goal.returns
 returns c =
-    let long = certificate_long c.args.width c.args.vote.now c.args.places.now _ c.bytes-statement.ensures _ c.entries-length.ensures.value in
+    let long = certificate_long c.args.width c.args.vote.now c.args.places.now _ c.bytes-statement.ensures _ c.entries_length.ensures.value in
     omega (arith, long)

@@ -16,9 +16,9 @@ loop-place-preserved c =
     let many = length-map (kept_alike share_alike c.args.share.now c.args.places.now 0) share_at in
     let within = c.in-Some.ensures.within in
     let walk = c.in-Some.ensures.walk in
-    (omega arith, one_more c.loop-place.invariant.1 _ _ _ walk c.share-at.ensures (has_place c.loop-place.invariant.1 _ _ walk (omega (arith, many, c.requires.room))))
+    (omega arith, one_more c.loop-place.invariant.1 _ _ _ walk c.share_at.ensures (has_place c.loop-place.invariant.1 _ _ walk (omega (arith, many, c.requires.room))))
 
 pub returns : goal.returns
 returns c =
-    let done = at_end c.loop-place.invariant.1 c.in-default.ensures.walk in
+    let done = at_end c.loop-place.invariant.1 c.in_default.ensures.walk in
     record { count = done.0; shares = done.1 }

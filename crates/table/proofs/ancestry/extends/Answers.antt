@@ -9,5 +9,5 @@ loop-at-init c = (refl, λ le. sym (extends_low c.args.table.now c.args.a c.args
 pub loop-at-preserved : goal.loop-at-preserved
 loop-at-preserved c =
     let s = extends_above c.args.table.now c.loop-at.at c.args.b (λ e. omega arith) (omega arith) in
-    let same = ap (λ i. extends c.args.table.now i c.args.b) c.parent-of-at.ensures.place ∙ (sym s ∙ c.loop-at.invariant.0) in
-    (same, λ le. sym (extends_low c.args.table.now c.parent-of-at.result c.args.b le) ∙ same)
+    let same = ap (λ i. extends c.args.table.now i c.args.b) c.parent_of-at.ensures.place ∙ (sym s ∙ c.loop-at.invariant.0) in
+    (same, λ le. sym (extends_low c.args.table.now c.parent_of-at.result c.args.b le) ∙ same)

@@ -12,4 +12,4 @@ padded s w v e =
     ap (λ (x : List ℕ). record { signer = s; len = length w; words = x }) (ap (λ (x : List ℕ). x ++ drop (length w - 0) (replicate words_most 0)) e ∙ ap (λ (x : List ℕ). w ++ x) rest)
 
 pub returns : goal.returns
-returns c = padded c.args.signer c.args.words.now _ c.copy-from-slice.ensures.after
+returns c = padded c.args.signer c.args.words.now _ c.copy_from_slice.ensures.after

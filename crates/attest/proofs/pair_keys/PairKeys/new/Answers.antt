@@ -66,11 +66,11 @@ made owner g s r rowS rowR ok size sE rE =
           ∙ sym (cond-true (fit owner s r) (Some (record { owner = owner; sending = s; receiving = r })) None ok);
     }
 
-pub invariant-of-result : goal.invariant-of-result
-invariant-of-result c =
-    let m = made c.args.owner c.in-ok-group.group.number c.args.sending.now c.args.receiving.now c.row.result c.row-2.result (sym c.fits.ensures ∙ c.if-not-fits.false) c.in-ok-group.ensures c.row.ensures c.row-2.ensures in
+pub invariant_of-result : goal.invariant_of-result
+invariant_of-result c =
+    let m = made c.args.owner c.in_ok-group.group.number c.args.sending.now c.args.receiving.now c.row.result c.row-2.result (sym c.fits.ensures ∙ c.if-not-fits.false) c.in_ok-group.ensures c.row.ensures c.row-2.ensures in
     (m.member, (m.among, (m.rows, (m.paired, tt))))
 
 pub returns : goal.returns
 returns c =
-    (made c.args.owner c.in-ok-group.group.number c.args.sending.now c.args.receiving.now c.row.result c.row-2.result (sym c.fits.ensures ∙ c.if-not-fits.false) c.in-ok-group.ensures c.row.ensures c.row-2.ensures).keys
+    (made c.args.owner c.in_ok-group.group.number c.args.sending.now c.args.receiving.now c.row.result c.row-2.result (sym c.fits.ensures ∙ c.if-not-fits.false) c.in_ok-group.ensures c.row.ensures c.row-2.ensures).keys

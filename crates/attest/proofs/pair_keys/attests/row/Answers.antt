@@ -11,4 +11,4 @@ filled keys row e =
     ap (λ (x : List (List ℕ)). x ++ drop (length keys - 0) (replicate key_room (replicate 32 0))) e ∙ ap (λ (x : List (List ℕ)). keys ++ x) rest
 
 pub returns : goal.returns
-returns c = filled c.args.keys.now _ c.copy-from-slice.ensures.after
+returns c = filled c.args.keys.now _ c.copy_from_slice.ensures.after

@@ -1,5 +1,5 @@
 use Rattle.coin.specs.Members.{someone}
 use Rattle.coin.proofs.polynomial.PolynomialCoin.elect.Goals as goal
 
-pub member-of-requires : goal.member-of-requires
-member-of-requires c = someone c.args.n c.greatest-value.result c.args.shares.now c.in-ok-examine.ensures
+pub member_of-requires : goal.member_of-requires
+member_of-requires c = someone c.args.n c.greatest_value.result c.args.shares.now c.in_ok-examine.ensures

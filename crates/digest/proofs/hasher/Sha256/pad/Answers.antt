@@ -3,5 +3,5 @@ use Rattle.digest.proofs.hasher.Sha256.pad.Goals as goal
 
 pub returns : goal.returns
 returns c =
-    absorbed_padded c.args.self.now c.update.new.self c.write-padding.new.tail c.zeros-for-count.result c.write-padding.ensures
-    c.zeros-for-count.ensures c.update.ensures
+    absorbed_padded c.args.self.now c.update.new.self c.write_padding.new.tail c.zeros_for-count.result c.write_padding.ensures
+    c.zeros_for-count.ensures c.update.ensures

@@ -7,6 +7,6 @@ returns c =
     let h = c.args.self.now in
     let blocks = c.args.blocks.now in
     record {
-      absorbs = absorbs h blocks _ (took_blocks h blocks c.compress-all.new.state (omega arith) (omega arith) c.compress-all.ensures);
+      absorbs = absorbs h blocks _ (took_blocks h blocks c.compress_all.new.state (omega arith) (omega arith) c.compress_all.ensures);
       whole = omega arith;
     }

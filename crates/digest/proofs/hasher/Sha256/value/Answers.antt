@@ -6,4 +6,4 @@ use Rattle.digest.proofs.hasher.Sha256.value.Goals as goal
 
 pub returns : goal.returns
 unfolding digest
-returns c = λ bytes had. c.joined-bytes.ensures ∙ ap (flat_map bytes32) had.blocks
+returns c = λ bytes had. c.joined_bytes.ensures ∙ ap (flat_map bytes32) had.blocks

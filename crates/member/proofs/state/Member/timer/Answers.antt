@@ -4,8 +4,8 @@ use Rattle.member.specs.Shelf.{certificate_length}
 use Rattle.member.proofs.Rooms.{certificate_room, narrow_tags}
 use Rattle.member.proofs.state.Member.timer.Goals as goal
 
-pub write-timeout-length-requires : goal.write-timeout-length-requires
-write-timeout-length-requires g c =
+pub write_timeout-length-requires : goal.write_timeout-length-requires
+write_timeout-length-requires g c =
     let a = g.A.Attestor in
     let m = c.args.self.now in
     let fits = c.sized.ensures.parts c.if-not-sized.false in

@@ -9,7 +9,7 @@ returns t c =
     let n = c.args.n in
     let before = c.args.self.now in
     let begun : Adds before (front n) c.if-n-ge10.self = elim c.if-n-ge10.branch [
-      | then-n-ge10 w ↦ adds_front before _ _ n w.if-n-ge10.true w.self-is w.push-decimal.ensures
+      | then-n-ge10 w ↦ adds_front before _ _ n w.if-n-ge10.true w.self-is w.push_decimal.ensures
       | else-n-ge10 w ↦ adds_none before _ n (omega arith) w.self-is
     ] in
     adds_digit before c.if-n-ge10.self _ n (omega arith) begun c.push.ensures

@@ -12,8 +12,8 @@ pub loop-byte-preserved : goal.loop-byte-preserved
 loop-byte-preserved g c plain =
     let took = g.W.Write.write_str_gives in
     let before = c.loop-byte.invariant plain in
-    let high = c.in-ok-write-char.ensures.writes before.plain refl in
-    let low = c.in-ok-write-char-2.ensures.writes high.plain refl in
+    let high = c.in_ok-write_char.ensures.writes before.plain refl in
+    let low = c.in_ok-write_char-2.ensures.writes high.plain refl in
     has_written_of_eq took _ _ _ _
     (hex_encoded _ _ _ _ c.loop-byte-test.true c.digit.ensures.value c.digit-in-loop-byte.ensures.value c.digit.ensures.ascii c.digit-in-loop-byte.ensures.ascii)
     (has_written_append took _ _ _ _ _ before (has_written_append took _ _ _ _ _ high low))
