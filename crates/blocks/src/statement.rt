@@ -106,7 +106,7 @@ impl Statement {
 fn all_zero(bytes: &[u8]) -> bool
     ensures { result ≡ bytes_eq bytes.now (replicate 43 0) }
 {
-    bytes == &[0; STATEMENT_BYTES]
+    bytes == [0; STATEMENT_BYTES].as_slice()
 }
 
 // Whether 43 bytes have the form of a statement among n members.
