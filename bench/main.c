@@ -8,7 +8,7 @@
 #include <string.h>
 #include <time.h>
 
-// The exports of crates/digest: a slice is a pointer and then a length.
+// The exports of crates/digest_c: a slice is a pointer and then a length.
 bool veerylocker_sha256(const uint8_t *message, size_t length, uint8_t *out,
                         size_t out_length);
 bool veerylocker_hmac(const uint8_t *key, size_t key_length,
