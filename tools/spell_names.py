@@ -14,7 +14,7 @@ import sys
 
 DECL = re.compile(r"^([ \t]*)((?:(?:abbrev|unfoldable|pub|record|data|infix[lr]?|mutual)\s+)*)([^\s:(){}.;,]+)(?=(\s*:\s)|\s*[({]|\s)", re.M)
 GHOST = re.compile(r"\bghost (\w+):")
-IDENT = re.compile(r"[^\s(){}\[\].;,\"`|]+")
+IDENT = re.compile(r"[^\s(){}\[\].;:,\"`|]+")
 # Names that would fall together with another of the same crate.
 APART = {
     "Entries-hold": "AllEntriesHold",

@@ -1,6 +1,6 @@
 -- The book as an attestor: a tag is the place of its entry, from 0.
 use Rattle.std.specs.Prelude.{ℕ, ◌+◌, min, Bool, ◌&&◌, List, length, take, ◌==◌, nat_le, nat_lt, slice_index_or, slice_set}
-use Rattle.std.specs.Borrow.{Bor}
+use Rattle.std.specs.Borrow.{MutBor}
 use Rattle.digest.specs.Bytes.{bytes32, number32}
 use Rattle.attest.specs.Limits.{words_most}
 use Rattle.attest.specs.Entry.{blank, entry_of, entry_holds}
@@ -17,7 +17,7 @@ abbrev pub entered : Book → List Entry
 entered b = take b.count b.entries.now
 
 -- a book with no entry, in the hands of the dealer
-abbrev pub book_over : Bor (List Entry) → GroupSize → Book
+abbrev pub book_over : MutBor (List Entry) → GroupSize → Book
 book_over table group = record { owner = 0; group = group; count = 0; entries = table }
 
 -- the book in the hands of a member, or of the dealer
@@ -45,8 +45,8 @@ book_signed b words = record {
   group = b.group;
   count = b.count + 1;
   entries = record {
-    ref_ptr = b.entries.ptr;
-    ghost_name = b.entries.name;
+    ref_ptr = b.entries.ref_ptr;
+    ghost_name = b.entries.ghost_name;
     now = slice_set b.entries.now b.count (entry_of b.owner words);
   };
 }

@@ -26,7 +26,7 @@ pub trait Attestor {
     const TAG_FIXED: usize;
 
     // the two constants, for the clauses
-    ghost perMember: { ℕ };
+    ghost per_member: { ℕ };
 
     ghost fixed: { ℕ };
 
@@ -43,7 +43,7 @@ pub trait Attestor {
     ghost signs: { Self → List ℕ → Bool };
 
     // the tag that it would give for words now
-    ghost tagOf: { Self → List ℕ → List ℕ };
+    ghost tag_of: { Self → List ℕ → List ℕ };
 
     // the attestor once it has signed words
     ghost signed: { Self → List ℕ → Self };

@@ -4,7 +4,6 @@ use attest::entry::Entry;
 use attest::group::GroupSize;
 use attest::pair_keys::PairKeys;
 use attest::parts::{Key, pair_tag};
-use std::test::Fail;
 
 fn key(signer: u8, receiver: u8) -> Key {
     [signer.wrapping_mul(16).wrapping_add(receiver); 32]
@@ -40,10 +39,9 @@ fn accepts(own: u8, signer: u8, tag: &[u8]) -> bool {
 }
 
 #[test]
-fn pair_keys_sign(rt: HostRuntime) -> Result<(), Fail> {
+fn pair_keys_sign(rt: HostRuntime) {
     let Some(keys) = member(1) else {
-        assert!(rt; false, "no keys");
-        return Ok(());
+        panic!(rt; "no keys")
     };
     let mut one = keys;
     let mut tag = [7; TAG_ROOM];
@@ -56,7 +54,6 @@ fn pair_keys_sign(rt: HostRuntime) -> Result<(), Fail> {
     let by_dealer: &[u8] = BY_DEALER;
     assert!(rt; &tag[0..64] == by_dealer);
     assert_eq!(rt; pair_tag(&keys, WORDS, &mut tag[0..63]), None);
-    Ok(())
 }
 
 #[test]
@@ -82,22 +79,21 @@ fn pair_keys_refused(rt: HostRuntime) {
 }
 
 #[test]
-fn book(rt: HostRuntime) -> Result<(), Fail> {
+fn book(rt: HostRuntime) {
     let mut tag = [9; TAG_ROOM];
     let mut table = [Entry::blank(); 2];
     let Some(group) = GroupSize::of(4) else {
-        assert!(rt; false, "no group");
-        return Ok(());
+        panic!(rt; "no group")
     };
     let mut book = Book::over(&mut table, group);
     assert!(rt; book.hand_to(5).is_err());
     assert!(rt; book.hand_to(2).is_ok());
     assert!(rt; book.sign(&[0; 45], &mut tag).is_err());
     assert!(rt; book.sign(WORDS, &mut tag).is_ok());
-    assert!(rt; &tag[0..5] == &[0, 0, 0, 0, 9]);
+    assert!(rt; &tag[0..5] == [0, 0, 0, 0, 9].as_slice());
     assert!(rt; book.hand_to(3).is_ok());
     assert!(rt; book.sign(WORDS, &mut tag).is_ok());
-    assert!(rt; &tag[0..5] == &[0, 0, 0, 1, 9]);
+    assert!(rt; &tag[0..5] == [0, 0, 0, 1, 9].as_slice());
     assert!(rt; book.sign(WORDS, &mut tag).is_err());
     assert!(rt; book.accept(2, WORDS, &[0, 0, 0, 0]));
     assert!(rt; book.accept(3, WORDS, &[0, 0, 0, 1]));
@@ -106,5 +102,4 @@ fn book(rt: HostRuntime) -> Result<(), Fail> {
     assert!(rt; !book.accept(2, &words[1..], &[0, 0, 0, 0]));
     assert!(rt; !book.accept(2, WORDS, &[0, 0, 0, 2]));
     assert!(rt; !book.accept(2, WORDS, &[0, 0, 0]));
-    Ok(())
 }

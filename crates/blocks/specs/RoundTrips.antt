@@ -1,11 +1,11 @@
 -- Reading and writing undo one another.
 use Rattle.std.specs.Prelude.{◌≡◌, ℕ, ◌<◌, List, Some, Option}
-use Rattle.std.specs.List.{AllByRecursion as All}
+use Rattle.std.specs.List.{AllByRecursion}
 use Rattle.blocks.specs.Statements.{statement_bytes, read_statement, StatementFits}
 use Rattle.blocks.specs.Heads.{head_bytes, read_head, HeadFits}
 
 abbrev pub AreBytes : List ℕ → Type 0
-AreBytes bs = All (λ b. b < 256) bs
+AreBytes bs = AllByRecursion (λ b. b < 256) bs
 
 -- what fits is written so that it reads back as the same; what is read fits, and writes back as the same bytes
 pub record RoundTrip {A : Type 0} (Fits : A → Type 0) (written : A → List ℕ) (read : List ℕ → Option A) : Type 0 where

@@ -1,7 +1,7 @@
 -- Newton's interpolation finds the value at 0 of the polynomial on which the shares lie.
 use Rattle.std.specs.Prelude.{◌≡◌, ℕ, zero, suc, ◌+◌, ◌*◌, ◌%◌, ◌<◌, List, [], ◌∷◌, map, length, refl}
 use Rattle.std.proofs.Common.{sym, ap, ◌∙◌, arith}
-use Rattle.std.specs.List.{AllByRecursion as All}
+use Rattle.std.specs.List.{AllByRecursion}
 use Rattle.std.proofs.lemmas.List.{length-map, nil_from_length}
 use Rattle.std.proofs.ByRecursion.{All-map, All-weaker}
 use Rattle.coin.specs.declared.shares.Share.{Share}
@@ -41,11 +41,11 @@ module _ (c : ℕ) (p : List ℕ) (s : Share) (s-known : Known 256 s) (s-on : On
       ∙ ap (λ v. (eval (c ∷ p) x % 257 + 256 * v) % 257 * inverse_of run % 257) s-on
       ∙ slope (eval (c ∷ p) x) (eval (c ∷ p) x0) x x0 (eval (quotient x0 p) x) (inverse_of run) (division c p x0 x) inverts
 
-  all_reduced : (ts : List Share) → AllKnown 256 ts → All (Other s) ts → All (On (c ∷ p)) ts → All (On (quotient s.member p)) (map (reduce s) ts)
+  all_reduced : (ts : List Share) → AllKnown 256 ts → AllByRecursion (Other s) ts → AllByRecursion (On (c ∷ p)) ts → AllByRecursion (On (quotient s.member p)) (map (reduce s) ts)
   all_reduced [] known other on = tt
   all_reduced (t ∷ ts) known other on = (reduced_on t known.0 other.0 on.0, all_reduced ts known.1 other.1 on.1)
 
-interpolates : (k : ℕ) (ss : List Share) (p : List ℕ) → length ss ≡ k → length p ≡ length ss → AllKnown 256 ss → Apart ss → All (On p) ss → at_zero k ss ≡ eval p 0 % 257
+interpolates : (k : ℕ) (ss : List Share) (p : List ℕ) → length ss ≡ k → length p ≡ length ss → AllKnown 256 ss → Apart ss → AllByRecursion (On p) ss → at_zero k ss ≡ eval p 0 % 257
 interpolates zero ss p count degree known apart on = let empty : length p ≡ 0 = omega arith in sym (ap (λ q. eval q 0 % 257) (nil_from_length p empty))
 interpolates (suc k) [] p count degree known apart on = absurd (omega arith)
 interpolates (suc k) (s ∷ ss) [] count degree known apart on = absurd (omega arith)

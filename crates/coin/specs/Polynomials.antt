@@ -1,6 +1,6 @@
 -- Polynomials modulo 257: the dealings that lie on them, and how one is dealt.
 use Rattle.std.specs.Prelude.{◌≡◌, ℕ, ◌+◌, ◌*◌, ◌%◌, ◌≤◌, List, [], ◌∷◌, length, Some, None, Option}
-use Rattle.std.specs.List.{AllByRecursion as All}
+use Rattle.std.specs.List.{AllByRecursion}
 use Rattle.coin.specs.Shares.{Dealing, size, Member, member_of}
 
 -- the polynomial with these coefficients, the constant first, at x
@@ -24,7 +24,7 @@ winner_of n d s view = member_of n (eval (s view).coefficients 0 % 257)
 
 -- all are residues modulo 257
 abbrev pub Residues : List ℕ → Type 0
-Residues cs = All (λ c. c ≤ 256) cs
+Residues cs = AllByRecursion (λ c. c ≤ 256) cs
 
 -- the polynomial's value at x modulo 257, and none only where a coefficient is no residue
 abbrev pub Evaluated : List ℕ → ℕ → Option ℕ → Type 0

@@ -1,6 +1,6 @@
 -- Dealings and shares: when shares are well formed, and what an election of them answers.
 use Rattle.std.specs.Prelude.{◌≡◌, ℕ, ◌+◌, ◌-◌, ◌/◌, ◌%◌, ◌≤◌, Bool, ◌≢◌, List, [], ◌∷◌, length, Ok, Err, MatchBool, Result}
-use Rattle.std.specs.List.{AllByRecursion as All}
+use Rattle.std.specs.List.{AllByRecursion}
 use Rattle.coin.specs.declared.shares.Share.{Share}
 use Rattle.coin.specs.declared.shares.ElectError.{ElectError}
 use Rattle.coin.specs.declared.shares.ElectError.TheVariants.{Count, Unknown, Repeated, Excess}
@@ -33,7 +33,7 @@ abbrev pub Known : ℕ → Share → Type 0
 Known n s = Member n s.member
 
 abbrev pub AllKnown : ℕ → List Share → Type 0
-AllKnown n shares = All (Known n) shares
+AllKnown n shares = AllByRecursion (Known n) shares
 
 -- t is a share of another member than s
 abbrev pub Other : Share → Share → Type 0
@@ -42,13 +42,13 @@ Other s t = t.member ≢ s.member
 -- no two shares have one member
 abbrev pub Apart : List Share → Type 0
 Apart [] = Unit {0}
-Apart (s ∷ ss) = All (Other s) ss × Apart ss
+Apart (s ∷ ss) = AllByRecursion (Other s) ss × Apart ss
 
 abbrev pub Within : ℕ → Share → Type 0
 Within greatest s = s.value ≤ greatest
 
 abbrev pub AllWithin : ℕ → List Share → Type 0
-AllWithin greatest shares = All (Within greatest) shares
+AllWithin greatest shares = AllByRecursion (Within greatest) shares
 
 pub record WellFormed (n greatest : ℕ) (shares : List Share) : Type 0 where
   pub count : length shares ≡ size n
@@ -58,7 +58,7 @@ pub record WellFormed (n greatest : ℕ) (shares : List Share) : Type 0 where
 
 -- each share is the one that the dealing gives its member in the view
 abbrev pub Dealt : Dealing → ℕ → List Share → Type 0
-Dealt d view shares = All (λ s. s.value ≡ d view s.member) shares
+Dealt d view shares = AllByRecursion (λ s. s.value ≡ d view s.member) shares
 
 -- the error e is the first that the shares make
 abbrev pub Refused : ℕ → ℕ → List Share → ElectError → Type 0

@@ -1,6 +1,6 @@
 -- The entries of a walk are those of a certificate, and are read back from their bytes.
 use Rattle.std.proofs.Common.{◌≡◌, ℕ, ◌+◌, ◌<◌, ◌≤◌, Bool, true, ltb, List, [], ◌∷◌, ◌++◌, map, length, get_or, take, drop, set, replicate, Some, None, Option, refl, ap, ◌∙◌, subst, ⊎_elim, arith}
-use Rattle.std.specs.List.{flat_map, AllByRecursion as All}
+use Rattle.std.specs.List.{flat_map, AllByRecursion}
 use Rattle.std.proofs.lemmas.List.{length-set, length-take-le, get_or_past, take_at, drop_at}
 use Rattle.std.proofs.lemmas.Bool.{and_from, lt-ltb, le-leb, cases_lt, cond_both, cond-true}
 use Rattle.attest.specs.Limits.{tag_room}
@@ -47,13 +47,13 @@ module _ {T : Type 0} where
     abbrev Met : ℕ × T → Type 0
     Met met = Kept places met.0 met.1 × (alike met.1 x ≡ true)
 
-    entries_rise : (low : ℕ) (walk : List (ℕ × T)) → PlacesRise low walk → All Met walk → Rising (length places) low (entries_from tail walk)
+    entries_rise : (low : ℕ) (walk : List (ℕ × T)) → PlacesRise low walk → AllByRecursion Met walk → Rising (length places) low (entries_from tail walk)
     entries_rise low [] rise all = tt
     entries_rise low (k ∷ walk) rise all =
         let in' = held_within places k.0 k.1 all.0.0 in
         (omega (arith, rise.0), omega arith, entries_rise (k.0 + 1) walk rise.1 all.1)
 
-    entries_wide : (wide : ℕ) (walk : List (ℕ × T)) → ((k : ℕ) (y : T) → Kept places k y → length (tail y) ≡ wide) → All Met walk → All (λ e. length e.tail ≡ wide) (entries_from tail walk)
+    entries_wide : (wide : ℕ) (walk : List (ℕ × T)) → ((k : ℕ) (y : T) → Kept places k y → length (tail y) ≡ wide) → AllByRecursion Met walk → AllByRecursion (λ e. length e.tail ≡ wide) (entries_from tail walk)
     entries_wide wide [] each all = tt
     entries_wide wide (k ∷ walk) each all = (each k.0 k.1 all.0.0, entries_wide wide walk each all.1)
 
@@ -76,14 +76,14 @@ module _ (wide : ℕ) (e : Entry) (rest : List ℕ) (long : length e.tail ≡ wi
   entry_of : take (1 + wide) (entry_bytes e ++ rest) ≡ entry_bytes e
   entry_of = take_at (entry_bytes e) rest (1 + wide) (omega arith)
 
-read_back : (wide : ℕ) (es : List Entry) → All (λ e. length e.tail ≡ wide) es → entries_of wide (length es) (flat_map entry_bytes es) ≡ es
+read_back : (wide : ℕ) (es : List Entry) → AllByRecursion (λ e. length e.tail ≡ wide) es → entries_of wide (length es) (flat_map entry_bytes es) ≡ es
 read_back wide [] all = refl
 read_back wide (e ∷ es) all =
     let rest = flat_map entry_bytes es in
     ap (λ (t : List ℕ). record { signer = e.signer; tail = t } ∷ entries_of wide (length es) (drop (1 + wide) (entry_bytes e ++ rest))) (take_at e.tail rest wide all.0)
     ∙ (ap (λ (bs : List ℕ). e ∷ entries_of wide (length es) bs) (rest_of wide e rest all.0) ∙ ap (λ (xs : List Entry). e ∷ xs) (read_back wide es all.1))
 
-formed : (n wide : ℕ) (limit : Option ℕ) (low : ℕ) (es : List Entry) → Rising n low es → All (λ e. length e.tail ≡ wide) es → All (λ e. within limit (number16 e.tail 0) ≡ true) es → entries_formed n limit wide (length es) low (flat_map entry_bytes es) ≡ true
+formed : (n wide : ℕ) (limit : Option ℕ) (low : ℕ) (es : List Entry) → Rising n low es → AllByRecursion (λ e. length e.tail ≡ wide) es → AllByRecursion (λ e. within limit (number16 e.tail 0) ≡ true) es → entries_formed n limit wide (length es) low (flat_map entry_bytes es) ≡ true
 formed n wide limit low [] rise all values = refl
 formed n wide limit low (e ∷ es) rise all values =
     let rest = flat_map entry_bytes es in
@@ -109,14 +109,14 @@ tails = record {
   shares = λ width x le. omega (arith, length-take-le width x.tag le);
 }
 
-same_walk : (width : ℕ) (walk : List (ℕ × KeptShare)) → All (λ met. met.1.value < 65536) walk → map share_in (entries_from (share_tail width) walk) ≡ map share_at walk
+same_walk : (width : ℕ) (walk : List (ℕ × KeptShare)) → AllByRecursion (λ met. met.1.value < 65536) walk → map share_in (entries_from (share_tail width) walk) ≡ map share_at walk
 same_walk width [] all = refl
 same_walk width (k ∷ walk) all =
     let value : number16 (share_tail width k.1) 0 ≡ k.1.value = omega (arith, all.0) in
     ap (λ (v : ℕ). record { member = k.0 + 1; value = v } ∷ map share_in (entries_from (share_tail width) walk)) value
     ∙ ap (λ xs. share_at k ∷ xs) (same_walk width walk all.1)
 
-small_values : (x : KeptShare) (places : List (Option KeptShare)) (walk : List (ℕ × KeptShare)) → ((k : ℕ) (y : KeptShare) → Kept places k y → y.value < 65536) → All (λ met. Kept places met.0 met.1 × (share_alike met.1 x ≡ true)) walk → All (λ met. met.1.value < 65536) walk
+small_values : (x : KeptShare) (places : List (Option KeptShare)) (walk : List (ℕ × KeptShare)) → ((k : ℕ) (y : KeptShare) → Kept places k y → y.value < 65536) → AllByRecursion (λ met. Kept places met.0 met.1 × (share_alike met.1 x ≡ true)) walk → AllByRecursion (λ met. met.1.value < 65536) walk
 small_values x places [] each all = tt
 small_values x places (k ∷ walk) each all = (each k.0 k.1 all.0.0, small_values x places walk each all.1)
 

@@ -1,6 +1,6 @@
 -- What the entries that are built at a threshold come to.
 use Rattle.std.specs.Prelude.{◌≡◌, ℕ, ◌+◌, ◌<◌, ◌≤◌, Bool, true, List, [], ◌∷◌, map, length, take, Ok, Option}
-use Rattle.std.specs.List.{flat_map, AllByRecursion as All}
+use Rattle.std.specs.List.{flat_map, AllByRecursion}
 use Rattle.attest.specs.Limits.{tag_room}
 use Rattle.digest.specs.Bytes.{number16}
 use Rattle.coin.specs.declared.shares.Share.{Share}
@@ -23,7 +23,7 @@ Rising n low (e ∷ es) = (low < e.signer) × (e.signer ≤ n) × Rising n e.sig
 pub record Sound (n threshold wide : ℕ) (es : List Entry) : Type 0 where
   pub many : length es ≡ threshold
   pub rising : Rising n 0 es
-  pub tails : All (λ e. length e.tail ≡ wide) es
+  pub tails : AllByRecursion (λ e. length e.tail ≡ wide) es
 
 -- where a put reaches the threshold, what is then built is sound, if what the places then keep has tails of `wide` bytes
 abbrev pub ReachedIsSound : {T : Type 0} → (T → T → Bool) → (T → T → Bool) → Type 0
@@ -33,7 +33,7 @@ ReachedIsSound {T} above alike =
 -- sound entries are read back from their bytes, and have the form that a reader asks for; their values within the limit, where there is one
 abbrev pub SoundIsRead : Type 0
 SoundIsRead =
-    (n threshold wide : ℕ) (limit : Option ℕ) (es : List Entry) → Sound n threshold wide es → All (λ e. within limit (number16 e.tail 0) ≡ true) es → (entries_of wide threshold (flat_map entry_bytes es) ≡ es) × (entries_formed n limit wide threshold 0 (flat_map entry_bytes es) ≡ true)
+    (n threshold wide : ℕ) (limit : Option ℕ) (es : List Entry) → Sound n threshold wide es → AllByRecursion (λ e. within limit (number16 e.tail 0) ≡ true) es → (entries_of wide threshold (flat_map entry_bytes es) ≡ es) × (entries_formed n limit wide threshold 0 (flat_map entry_bytes es) ≡ true)
 
 -- a tag that has room is kept whole, and the tails of items whose tags have `width` bytes or more are as long as the form says
 pub record Tails : Type 0 where

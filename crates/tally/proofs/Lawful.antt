@@ -1,6 +1,6 @@
 -- The laws of a tally, from those of its items.
 use Rattle.std.proofs.Common.{◌≡◌, ℕ, zero, suc, ◌+◌, ◌-◌, ◌≤◌, Bool, true, eqb, ltb, List, [], ◌∷◌, ◌++◌, length, get_or, drop, set, Some, None, Option, sym, ap, ◌∙◌, subst, arith}
-use Rattle.std.specs.List.{ContainsAt as Has, AllByRecursion as All}
+use Rattle.std.specs.List.{ContainsAt as Has, AllByRecursion}
 use Rattle.std.proofs.lemmas.List.{get_or-drop}
 use Rattle.std.proofs.ByRecursion.{has_get_or, has_append_right}
 use Rattle.std.proofs.lemmas.Bool.{cond_both, eqb-true}
@@ -29,14 +29,14 @@ module _ {T : Type 0} (alike : T → T → Bool) (x : T) where
   abbrev Within : List (Option T) → ℕ → List (Option T) → Type 0
   Within whole i places = (k j : ℕ) → i + k ≡ j → get_or places k None ≡ get_or whole j None
 
-  walk_keeps : (whole : List (Option T)) (i : ℕ) (places : List (Option T)) → Within whole i places → All (λ kept. Kept whole kept.0 kept.1 × (alike kept.1 x ≡ true)) (alike_in alike x i places)
+  walk_keeps : (whole : List (Option T)) (i : ℕ) (places : List (Option T)) → Within whole i places → AllByRecursion (λ kept. Kept whole kept.0 kept.1 × (alike kept.1 x ≡ true)) (alike_in alike x i places)
   walk_keeps whole i [] at = tt
   walk_keeps whole i (None ∷ places) at = walk_keeps whole (i + 1) places (λ k j e. at (suc k) j (omega arith))
   walk_keeps whole i (Some y ∷ places) at =
       let rest = alike_in alike x (i + 1) places in
       let keeps = walk_keeps whole (i + 1) places (λ k j e. at (suc k) j (omega arith)) in
       let P : ℕ × T → Type 0 = λ kept. Kept whole kept.0 kept.1 × (alike kept.1 x ≡ true) in
-      cond_both (alike y x) (Some y) None (λ p. All P (met i p ++ rest)) (λ like. ((sym (at 0 i (omega arith)), like), keeps)) (λ _. keeps)
+      cond_both (alike y x) (Some y) None (λ p. AllByRecursion P (met i p ++ rest)) (λ like. ((sym (at 0 i (omega arith)), like), keeps)) (λ _. keeps)
 
   walk_meets : (i k j : ℕ) (places : List (Option T)) (y : T) → i + k ≡ j → Kept places k y → alike y x ≡ true → Has (alike_in alike x i places) (j, y)
   walk_meets i k j [] y at held like = absurd (let z : ◌≡◌ {A = ℕ} 0 1 = cc in omega arith)

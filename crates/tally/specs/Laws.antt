@@ -1,6 +1,6 @@
 -- What a tally comes to, over whole lists of puts.
 use Rattle.std.specs.Prelude.{◌≡◌, ℕ, ◌+◌, ◌≤◌, Bool, true, ◌⊎◌, List, [], ◌∷◌, length, Some, None, Ok, Err, Option, slice_index_or}
-use Rattle.std.specs.List.{ContainsAt as Has, AllByRecursion as All}
+use Rattle.std.specs.List.{ContainsAt as Has, AllByRecursion}
 use Rattle.tally.specs.declared.places.Refused.{Refused}
 use Rattle.tally.specs.Walk.{kept_alike, weighed, weight_of}
 use Rattle.tally.specs.Puts.{put_to, judged, after_puts}
@@ -17,7 +17,7 @@ Rising low (kept ∷ walk) = (low ≤ kept.0) × Rising (kept.0 + 1) walk
 -- a walk meets all items alike to x that are kept at `from` or above, and no others, place by place
 pub record Walk {T : Type 0} (alike : T → T → Bool) (x : T) (places : List (Option T)) (from : ℕ) (walk : List (ℕ × T)) : Type 0 where
   pub rising : Rising from walk
-  pub kept : All (λ one. Kept places one.0 one.1 × (alike one.1 x ≡ true)) walk
+  pub kept : AllByRecursion (λ one. Kept places one.0 one.1 × (alike one.1 x ≡ true)) walk
   pub whole : (i : ℕ) (y : T) → from ≤ i → Kept places i y → alike y x ≡ true → Has walk (i, y)
 
 module _ {T : Type 0} (above alike : T → T → Bool) where

@@ -13,8 +13,8 @@ fn hexadecimal(bytes: [u8; 32]) -> [u8; 64] {
     text
 }
 
-fn expect(rt: &impl Abort, res: [u8; 32], published: &[u8; 64]) {
-    assert_eq!(rt; hexadecimal(res), *published);
+fn expect(rt: &impl Abort, bytes: [u8; 32], published: &[u8; 64]) {
+    assert_eq!(rt; hexadecimal(bytes), *published);
 }
 
 // The first two are the examples of FIPS 180-4 for SHA-256 (NIST, "SHA-256 example with intermediate values"), the third is among
@@ -85,7 +85,7 @@ fn short_keys(rt: HostRuntime) {
 #[test]
 fn truncated(rt: HostRuntime) {
     let tag = hexadecimal(hmac(&[0x0c; 20], b"Test With Truncation"));
-    assert_eq!(rt; &tag[0..32], b"a3b6167473100ee06e0c796c2955552b");
+    assert_eq!(rt; &tag[0..32], b"a3b6167473100ee06e0c796c2955552b".as_slice());
 }
 
 // RFC 4231, sections 4.7 and 4.8: test cases 6 and 7, with a key longer than a block, and with a text longer than one too.

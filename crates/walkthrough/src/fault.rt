@@ -2,7 +2,7 @@
 use std::alloc::AllocError;
 use std::{fmt, io};
 
-#[derive(Clone, Copy)]
+#[derive(Clone, Copy, Debug)]
 pub enum Fault {
     // There is no memory for the text.
     Memory,

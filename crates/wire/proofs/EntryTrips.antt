@@ -1,6 +1,6 @@
 -- Entries that are read write back as the same bytes, and entries that are written read back.
 use Rattle.std.proofs.Common.{◌≡◌, ℕ, zero, suc, ◌+◌, ◌*◌, ◌≤◌, true, ltb, leb, List, [], ◌∷◌, ◌++◌, length, get_or, take, drop, Some, None, Option, sym, refl, ap, ◌∙◌, subst, ap₂, suc-mul, arith}
-use Rattle.std.specs.List.{flat_map, AllByRecursion as All}
+use Rattle.std.specs.List.{flat_map, AllByRecursion}
 use Rattle.std.proofs.lemmas.List.{length-append, length-drop, length-take-le, take_at, drop_at, take-append-drop, nil_from_length}
 use Rattle.std.proofs.lemmas.Bool.{and_parts, and_from, leb-true, le-leb, lt-ltb, ltb-true}
 use Rattle.digest.specs.Bytes.{number16}
@@ -28,7 +28,7 @@ front wide (b ∷ bs) some = let on : 1 + wide ≡ suc wide = omega arith in ap 
 module _ (n : ℕ) (limit : Option ℕ) (wide : ℕ) where
   -- what the entries of bytes with the form are
   pub record Read (count last : ℕ) (bs : List ℕ) : Type 0 where
-    pub each : All (EntryFits n limit wide) (entries_of wide count bs)
+    pub each : AllByRecursion (EntryFits n limit wide) (entries_of wide count bs)
     pub rising : Rising last (entries_of wide count bs)
     pub layout : flat_map entry_bytes (entries_of wide count bs) ≡ bs
 
@@ -66,7 +66,7 @@ module _ (n : ℕ) (limit : Option ℕ) (wide : ℕ) where
     pub formed : entries_formed n limit wide count last (flat_map entry_bytes es) ≡ true
     pub entries : entries_of wide count (flat_map entry_bytes es) ≡ es
 
-  written : (last : ℕ) (es : List Entry) → All (EntryFits n limit wide) es → Rising last es → Written (length es) last es
+  written : (last : ℕ) (es : List Entry) → AllByRecursion (EntryFits n limit wide) es → Rising last es → Written (length es) last es
   written last [] each rising = record { long = omega arith; formed = refl; entries = refl }
   written last (e ∷ es) each rising =
       let fits = each.0 in

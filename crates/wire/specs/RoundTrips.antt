@@ -1,6 +1,6 @@
 -- What fits to be written in a message; and that reading and writing undo one another.
 use Rattle.std.specs.Prelude.{◌≡◌, ℕ, ◌+◌, ◌^◌, ◌<◌, ◌≤◌, List, [], ◌∷◌, ◌++◌, length, take, drop, replicate, Some, None, Option}
-use Rattle.std.specs.List.{flat_map, AllByRecursion as All}
+use Rattle.std.specs.List.{flat_map, AllByRecursion}
 use Rattle.coin.specs.Shares.{Member, size}
 use Rattle.digest.specs.Bytes.{number16}
 use Rattle.blocks.specs.declared.statement.Statement.{Statement}
@@ -34,7 +34,7 @@ Rising last (e ∷ es) = (last < e.signer) × Rising e.signer es
 -- just `count` entries that fit, their signers rising
 pub record EntriesFit (n : ℕ) (limit : Option ℕ) (wide count : ℕ) (es : List Entry) : Type 0 where
   pub counts : length es ≡ count
-  pub each : All (EntryFits n limit wide) es
+  pub each : AllByRecursion (EntryFits n limit wide) es
   pub rising : Rising 0 es
 
 -- a certificate of the statement has these entries: none of genesis, else a quorum's tags

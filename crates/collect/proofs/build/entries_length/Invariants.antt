@@ -6,8 +6,8 @@ use Rattle.collect.proofs.build.entries_length.Given as goal
 abbrev pub invariant-loop-found : goal.invariant-loop-found
 invariant-loop-found g l =
     (l.bytes ≤ 211 * l.from) × (l.from ≤ length l.places)
-    × (l.bytes + length (bytes_of (g.T.Entered.tail l.width) (kept_alike g.row.T-Item.alike l.item l.places l.from))
-    ≡ length (bytes_of (g.T.Entered.tail l.width) (kept_alike g.row.T-Item.alike l.item l.places 0)))
+    × (l.bytes + length (bytes_of (g.T.Entered.tail l.width) (kept_alike g.T.Item.alike l.item l.places l.from))
+    ≡ length (bytes_of (g.T.Entered.tail l.width) (kept_alike g.T.Item.alike l.item l.places 0)))
 
 abbrev pub decreases-loop-found : goal.decreases-loop-found
 decreases-loop-found g l = length l.places - l.from

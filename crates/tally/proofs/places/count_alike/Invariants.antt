@@ -4,7 +4,7 @@ use Rattle.tally.proofs.places.count_alike.Given as goal
 
 abbrev pub invariant-loop-place : goal.invariant-loop-place
 invariant-loop-place g l =
-    (l.count ≤ l.from) × (l.from ≤ length l.places) × (l.count + length (kept_alike g.T-as-Item.alike l.item l.places l.from) ≡ length (kept_alike g.T-as-Item.alike l.item l.places 0))
+    (l.count ≤ l.from) × (l.from ≤ length l.places) × (l.count + length (kept_alike g.T.Item.alike l.item l.places l.from) ≡ length (kept_alike g.T.Item.alike l.item l.places 0))
 
 abbrev pub decreases-loop-place : goal.decreases-loop-place
 decreases-loop-place g l = length l.places - l.from

@@ -26,4 +26,4 @@ held e s w k r same long is rE =
 pub returns-then-self-signer : goal.returns-then-self-signer
 returns-then-self-signer c =
     held c.args.self.now c.args.signer c.args.words.now c.min-len.result c.eq.result c.if-self-signer.true (search rules) c.min-len.ensures
-    (same_from_decides _ _ (slice_eq-Decides Decides-eqb _ _ _ c.eq.ensures) (bytes_eq-Decides _ _))
+    (same_from_decides _ _ (slice_eq-Decides Decides-eqb _ _ _ c.eq.ensures) (bytes_eq-Decides c.args.words.now (take (c.min-len.result - 0) c.args.self.now.words)))

@@ -69,7 +69,7 @@ made owner g s r rowS rowR ok size sE rE =
 pub invariant_of-result : goal.invariant_of-result
 invariant_of-result c =
     let m = made c.args.owner c.in_ok-group.group.number c.args.sending.now c.args.receiving.now c.row.result c.row-2.result (sym c.fits.ensures ∙ c.if-not-fits.false) c.in_ok-group.ensures c.row.ensures c.row-2.ensures in
-    (m.member, (m.among, (m.rows, (m.paired, tt))))
+    record { member = m.member; among = m.among; rows = m.rows; paired = m.paired }
 
 pub returns : goal.returns
 returns c =

@@ -22,4 +22,4 @@ decided owner s r b few more first among is =
 pub returns : goal.returns
 returns c =
     decided c.args.owner c.args.sending.now c.args.receiving.now c.eq.result (omega arith) (omega arith) (omega arith) (omega arith)
-    (same_from_decides _ _ (slice_eq-Decides Decides-eqb _ _ _ c.eq.ensures) (bytes_eq-Decides _ _))
+    (same_from_decides _ _ (slice_eq-Decides Decides-eqb _ _ _ c.eq.ensures) (bytes_eq-Decides (get_or c.args.sending.now (c.args.owner - 1) []) (get_or c.args.receiving.now c.args.owner [])))
