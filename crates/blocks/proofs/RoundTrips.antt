@@ -133,15 +133,15 @@ statement_read n bs s bytes e =
     let was = given _ (statement_of bs) s e in
     let passed = and_parts (eqb (length bs) 43) (statement_formed n bs) was.0 in
     let long : length bs ≡ 43 = eqb-true (length bs) 43 passed.0 in
-    let genesis-formed = bytes_eq bs (replicate 43 0) in
-    let member-formed = leb (get_or bs 2 0) n && height_fits (get_or bs 0 0) (get_or bs 1 0) in
+    let genesis_formed = bytes_eq bs (replicate 43 0) in
+    let member_formed = leb (get_or bs 2 0) n && height_fits (get_or bs 0 0) (get_or bs 1 0) in
     elim (cases_eq (get_or bs 2 0) 0) [
       | inl none ↦
-          let zeros = (bytes_eq-Decides bs (replicate 43 0)).0 (sym (cond-true _ genesis-formed member-formed (eq-eqb (get_or bs 2 0) 0 none)) ∙ passed.1) in
+          let zeros = (bytes_eq-Decides bs (replicate 43 0)).0 (sym (cond-true _ genesis_formed member_formed (eq-eqb (get_or bs 2 0) 0 none)) ∙ passed.1) in
           let is : s ≡ genesis = sym was.1 ∙ ap statement_of zeros in
           (ap statement_bytes is ∙ sym zeros, inl is)
       | inr some ↦
-          let formed = and_parts _ _ (sym (cond-false _ genesis-formed member-formed (ne_eqb (get_or bs 2 0) 0 some)) ∙ passed.1) in
+          let formed = and_parts _ _ (sym (cond-false _ genesis_formed member_formed (ne_eqb (get_or bs 2 0) 0 some)) ∙ passed.1) in
           let f : Front n bs = record { bytes = bytes; long = omega arith; lowest = omega arith; highest = leb-true _ _ formed.0; heights = formed.1 } in
           (ap statement_bytes (sym was.1) ∙ (front_again n bs f ∙ take_all 43 bs (omega arith)), subst (StatementFits n) was.1 (inr (front_fits n bs f)))
     ]

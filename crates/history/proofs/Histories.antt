@@ -44,11 +44,11 @@ pub history_keeps_the_rules_lem : (Block : Type 0) → HistoryKeepsTheRules Bloc
 history_keeps_the_rules_lem Block r votes s h = (invariant r h).rules
 
 pub moves_keep_the_rules_lem : (Block : Type 0) → MovesKeepTheRules Block
-moves_keep_the_rules_lem Block r by-moves = record {
-  few_faults = by-moves.few_faults;
-  start = by-moves.start;
-  rules = λ m honest. (invariant r (by-moves.moves m honest).1).rules;
+moves_keep_the_rules_lem Block r by_moves = record {
+  few_faults = by_moves.few_faults;
+  start = by_moves.start;
+  rules = λ m honest. (invariant r (by_moves.moves m honest).1).rules;
 }
 
 pub moves_keep_one_chain_lem : (Block : Type 0) → OneChain Block ByMoves
-moves_keep_one_chain_lem Block r by-moves = one_chain_lem Block r (moves_keep_the_rules_lem Block r by-moves)
+moves_keep_one_chain_lem Block r by_moves = one_chain_lem Block r (moves_keep_the_rules_lem Block r by_moves)

@@ -26,7 +26,7 @@ module _ {Block : Type 0} (r : Run Block) where
   exit_locked_on up k = record { seen = k.seen; recorded = k.recorded; covers = k.covers; locks = ≼_trans k.locks up }
 
 module _ {Block : Type 0} (r : Run Block) {v voted voted' : ℕ} {stage stage' : Stage} {lock lock' : Rank} {row row' : Row Block} {x : Block}
-    (m : Remembers r v stage voted lock row x) (voted-up : voted ≤ voted') (lock-up : lock ≼ lock') where
+    (m : Remembers r v stage voted lock row x) (voted_up : voted ≤ voted') (lock_up : lock ≼ lock') where
   open r use {parent, view, round, height}
 
   pub in_this_view : (stage ≡ fallback → stage' ≡ fallback) → RowRises r row row' x → Remembers r v stage' voted' lock' row' x
@@ -37,9 +37,9 @@ module _ {Block : Type 0} (r : Run Block) {v voted voted' : ℕ} {stage stage' :
     row_height = λ f e. omega (arith, m.row_height f e, up.heights);
     row_round = λ f e. up.rounds f (m.row_height f e) (m.row_round f e);
     row_covers = λ c e. up.covers (m.row_covers c e);
-    locked = λ o. ≼_trans (m.locked o) lock-up;
+    locked = λ o. ≼_trans (m.locked o) lock_up;
     exit_voted = λ f e p. omega (arith, m.exit_voted f e p);
-    exit_locked = λ c e p. exit_locked_on r lock-up (m.exit_locked c e p);
+    exit_locked = λ c e p. exit_locked_on r lock_up (m.exit_locked c e p);
   }
 
   pub in_later_view : {v' : ℕ} → v < v' → (Fallback r x → ByWinner r x → view x ≡ v → round x ≤ voted') →
@@ -51,7 +51,7 @@ module _ {Block : Type 0} (r : Run Block) {v voted voted' : ℕ} {stage stage' :
     row_height = λ f e. absurd (omega arith);
     row_round = λ f e. absurd (omega arith);
     row_covers = λ c e. absurd (omega arith);
-    locked = λ o. ≼_trans (m.locked o) lock-up;
+    locked = λ o. ≼_trans (m.locked o) lock_up;
     exit_voted = λ f e p.
         elim (cases_lt (view x) v) [
           | inl past ↦ omega (arith, m.exit_voted f e past)
@@ -59,7 +59,7 @@ module _ {Block : Type 0} (r : Run Block) {v voted voted' : ℕ} {stage stage' :
         ];
     exit_locked = λ c e p.
         elim (cases_lt (view x) v) [
-          | inl past ↦ exit_locked_on r lock-up (m.exit_locked c e past)
+          | inl past ↦ exit_locked_on r lock_up (m.exit_locked c e past)
           | inr now ↦ exit_locked c e (omega arith)
         ];
   }

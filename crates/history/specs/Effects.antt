@@ -15,9 +15,9 @@ higher a b = cond (ranks_below a b) b a
 
 -- the voted round after an exit, from the member's stage and voted round and the voted round of the winner's row: in fallback the greater
 abbrev pub voted_after : Stage → ℕ → ℕ → ℕ
-voted_after steady voted row-voted = voted
-voted_after timedout voted row-voted = voted
-voted_after fallback voted row-voted = max voted row-voted
+voted_after steady voted row_voted = voted
+voted_after timedout voted row_voted = voted
+voted_after fallback voted row_voted = max voted row_voted
 
 module _ {Block : Type 0} where
   -- the rows with p's replaced

@@ -48,17 +48,17 @@ module _ {Block : Type 0} (r : Run Block) (lawful : Lawful r) {last : Block} (th
   -- for higher rounds
   ancestor_is_first : Regular r c → view c ≡ view (grandparent r last) → Regular r (grandparent r last) →
       (a : AncestorAt r lawful c (round (grandparent r last))) → Extends r c (grandparent r last)
-  ancestor_is_first reg v first-regular a =
+  ancestor_is_first reg v first_regular a =
       elim (cases_lt 0 (height a.block)) [
         | inr none ↦
             subst (Extends r c)
-            (one_regular_per_round_lem Block r lawful a.block _ a.official.certified (inr three.certificate_first) (omega arith) first-regular a.at)
+            (one_regular_per_round_lem Block r lawful a.block _ a.official.certified (inr three.certificate_first) (omega arith) first_regular a.at)
             a.under
         | inl f ↦
             let earlier : view a.block < view c = earlier_view a.below (omega arith) in
             elim (voted_in_order r lawful (fallback_certificate r lawful a.official.certified f) three.certificate_first) [
               | inl e ↦ absurd (omega (arith, ap height e))
-              | inr (inl o) ↦ absurd (omega (arith, o.exit_round_kept f (a.official.by_winner f) first-regular (omega arith)))
+              | inr (inl o) ↦ absurd (omega (arith, o.exit_round_kept f (a.official.by_winner f) first_regular (omega arith)))
               | inr (inr o) ↦ absurd (omega (arith, o.views_never_fall))
             ]
       ]
@@ -82,7 +82,7 @@ module _ {Block : Type 0} (r : Run Block) (lawful : Lawful r) {last : Block} (th
         | inr low ↦ extends_trans r (official_chain r lawful oc three.official fc f (omega arith) (omega arith)).0 (by_parent (by_parent (itself refl)))
         | inl high ↦
             let k = (votable r lawful three.certificate_last).continues high in
-            let mid-below = k.one_below in
+            let mid_below = k.one_below in
             elim (cases_lt 1 (height (parent last))) [
               | inr low ↦ extends_trans r (official_chain r lawful oc om fc (omega arith) (omega arith) (omega arith)).0 (by_parent (itself refl))
               | inl high' ↦
@@ -102,8 +102,8 @@ module _ {Block : Type 0} (r : Run Block) (lawful : Lawful r) {last : Block} (th
   over_regular reg fc v =
       let vl = three.view_last in
       let vm = three.view_mid in
-      let mid-regular = parent_regular r lawful three.certificate_last reg (omega arith) in
-      let first-regular = parent_regular r lawful three.certificate_mid mid-regular (omega arith) in
+      let mid_regular = parent_regular r lawful three.certificate_last reg (omega arith) in
+      let first_regular = parent_regular r lawful three.certificate_mid mid_regular (omega arith) in
       elim (cases_lt 1 (height c)) [
         | inl high ↦ let k = (votable r lawful qc).continues high in omega (arith, k.same_view, k.one_below)
         | inr low ↦ elim (voted_in_order r lawful three.certificate_last qc) [
@@ -119,7 +119,7 @@ module _ {Block : Type 0} (r : Run Block) (lawful : Lawful r) {last : Block} (th
       let vl = three.view_last in
       elim (cases_lt (view last) (view c)) [
         | inl later ↦ inl (later_view later)
-        | inr no-later ↦
+        | inr no_later ↦
             let v : view c ≡ view (grandparent r last) = omega (arith, le.views) in
             elim (cases_lt 0 (height c)) [
               | inr none ↦ inr (regular_in_view (omega arith) v le)

@@ -59,6 +59,6 @@ meet w honest s t (x ∷ all) =
 pub quorums_meet_lem : QuorumsMeet
 quorums_meet_lem c few s t qs qt =
     let all = up_to c.members in
-    let from-s = total_held c.weight all s qs.distinct qs.are_members in
-    let from-t = total_held c.weight all t qt.distinct qt.are_members in
+    let from_s = total_held c.weight all s qs.distinct qs.are_members in
+    let from_t = total_held c.weight all t qt.distinct qt.are_members in
     elim (meet c.weight c.honest s t all) [ inl k ↦ k | inr heavy ↦ absurd (omega arith) ]

@@ -30,7 +30,7 @@ module _ {Block : Type 0} (r : Run Block) (lawful : Lawful r) {last : Block} (th
       rank r (parent last) ≼ rank r s → rank r (grandparent r last) ≼ rank r (parent s)
   exit_covers high s cs fs v p covers =
       let k = (votable r lawful three.certificate_last).continues high in
-      let mid-above = (votable r lawful three.certificate_mid).round_follows in
+      let mid_above = (votable r lawful three.certificate_mid).round_follows in
       let view_mid = three.view_mid in
       let rounds : round (parent last) ≤ round s = covers.rounds (omega (arith, k.same_view)) (omega (arith, k.one_below)) in
       elim (cases_lt (height (parent last)) (height s)) [

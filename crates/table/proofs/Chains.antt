@@ -48,8 +48,8 @@ module _ (t : List Held) where
   ancestor_through a b k h le =
       between t b (λ i. Linked t i → ancestor t i k ≡ ancestor t b k) (λ _. refl)
       (λ i pos e below linked.
-      let up-linked = linked_up i pos linked in
-      ancestor_above t i k (λ same. omega (arith, rounds_rise (up t i) b e up-linked, step i pos linked)) pos ∙ below up-linked) a h
+      let up_linked = linked_up i pos linked in
+      ancestor_above t i k (λ same. omega (arith, rounds_rise (up t i) b e up_linked, step i pos linked)) pos ∙ below up_linked) a h
 
   pub ancestor_at : (a b : ℕ) → extends t a b ≡ true → Linked t a → ancestor t a (round_at t b) ≡ Some b
   ancestor_at a b h linked = ancestor_through a b (round_at t b) h (omega arith) linked ∙ ancestor_here t b (round_at t b) refl
