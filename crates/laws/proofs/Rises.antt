@@ -6,7 +6,7 @@ use Rattle.blocks.specs.declared.head.Head.{Head}
 use Rattle.blocks.specs.declared.rank.Rank.{Rank}
 use Rattle.blocks.specs.declared.rank.Round.{Round}
 use Rattle.blocks.specs.declared.statement.Statement.{Statement}
-use Rattle.blocks.specs.Ranks.{less_rank, round}
+use Rattle.blocks.specs.Ranks.{less_rank}
 use Rattle.blocks.specs.Statements.{rank_of}
 use Rattle.blocks.proofs.Ordered.{ordered}
 use Rattle.table.specs.declared.held.Held.{Held}

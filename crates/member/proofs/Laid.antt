@@ -1,7 +1,7 @@
 -- Two fields at the start of a room.
-use Rattle.std.proofs.Common.{◌≡◌, ℕ, ◌+◌, ◌≤◌, cond, List, [], ◌++◌, length, take, sym, refl, ap, ◌∙◌, arith}
+use Rattle.std.proofs.Common.{◌≡◌, ℕ, ◌+◌, ◌≤◌, cond, List, ◌++◌, length, take, refl, ap, ◌∙◌, arith}
 use Rattle.std.proofs.lemmas.List.{length-append, take_at}
-use Rattle.blocks.specs.Layout.{fits, pasted, overlay}
+use Rattle.blocks.specs.Layout.{fits, pasted}
 use Rattle.blocks.proofs.Overlays.{Wrote, wrote_none, wrote_more}
 
 -- first and second stand at the start of what is left of the room after both were put there

@@ -10,7 +10,7 @@ use Rattle.member.specs.declared.state.Member.{Member}
 use Rattle.member.specs.declared.types.Address.TheVariants.{All}
 use Rattle.member.specs.declared.types.Refusal.{Refusal}
 use Rattle.member.specs.Calls.{Leaves}
-use Rattle.member.specs.Propose.{fallback_base, fallback_plan, regular_plan, planned, head_on, propose_rules, proposal_bytes, proposal_message, proposes, propose}
+use Rattle.member.specs.Propose.{fallback_plan, regular_plan, planned, head_on, propose_rules, proposal_bytes, proposal_message, proposes, propose}
 use Rattle.member.specs.Rules.{first_broken, settled}
 use Rattle.member.specs.Shelf.{shelved}
 use Rattle.member.specs.Sizes.{lengths_of}

@@ -1,5 +1,5 @@
 -- A member that is set up.
-use Rattle.std.proofs.Common.{◌≡◌, ℕ, Bool, true, cond, Ok, Err, sym, ap, ◌∙◌}
+use Rattle.std.proofs.Common.{◌≡◌, ℕ, Bool, true, cond, Ok, Err, ap, ◌∙◌}
 use Rattle.member.specs.declared.sizes.Lengths.{Lengths}
 use Rattle.member.specs.declared.state.Member.{Member}
 use Rattle.member.specs.declared.types.Refusal.TheVariants.{Sizes}

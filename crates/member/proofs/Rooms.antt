@@ -1,5 +1,5 @@
 -- Every certificate of a group has room in a place of the shelf, and every message in the outgoing buffer.
-use Rattle.std.proofs.Common.{◌≡◌, ℕ, ◌+◌, ◌*◌, ◌≤◌, max, Bool, true, false, cond, ◌||◌, eqb, ◌⊎◌, sym, refl, ap, ◌∙◌, subst, inl, inr, ⊎_elim, mul-le-mul, arith}
+use Rattle.std.proofs.Common.{◌≡◌, ℕ, ◌+◌, ◌*◌, ◌≤◌, max, Bool, true, false, cond, ◌||◌, eqb, sym, subst, ⊎_elim, mul-le-mul, arith}
 use Rattle.std.proofs.lemmas.Bool.{eqb-true, or_cases}
 use Rattle.blocks.specs.declared.statement.Statement.{Statement}
 use Rattle.wire.specs.Certificates.{count_for}

@@ -1,5 +1,5 @@
 -- The text sheet has room in its buffer.
-use Rattle.std.proofs.Common.{ℕ, ◌^◌, ◌<◌, ◌≤◌, List, length, decimal, arith}
+use Rattle.std.proofs.Common.{◌^◌, ◌<◌, ◌≤◌, List, length, decimal, arith}
 use Rattle.std.proofs.lemmas.Fmt.{length-decimal-le}
 use Rattle.std.proofs.lemmas.List.{length-append}
 use Rattle.blocks.specs.declared.rank.Kind.{Kind}

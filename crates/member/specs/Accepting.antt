@@ -1,5 +1,5 @@
 -- The tags of a message, each put to the attestor.
-use Rattle.std.specs.Prelude.{ℕ, ◌+◌, Bool, true, ◌&&◌, List, [], ◌∷◌, map, drop}
+use Rattle.std.specs.Prelude.{ℕ, ◌+◌, Bool, true, ◌&&◌, List, [], ◌∷◌, drop}
 use Rattle.digest.specs.Bytes.{number16}
 use Rattle.attest.specs.declared.attestor.Attestor.{Ghosts}
 use Rattle.blocks.specs.declared.rank.View.{View}

@@ -11,7 +11,6 @@ use Rattle.blocks.specs.Heads.{said}
 use Rattle.blocks.specs.Layout.{overlay}
 use Rattle.blocks.specs.Limits.{last_view, last_round}
 use Rattle.blocks.specs.Statements.{rank_of}
-use Rattle.coin.specs.declared.shares.Share.{Share}
 use Rattle.coin.specs.declared.Coin.{Ghosts as CoinGhosts}
 use Rattle.coin.specs.Shares.{size}
 use Rattle.tally.specs.declared.places.Refused.{Refused}

@@ -17,7 +17,7 @@ use Rattle.member.specs.declared.sizes.Lengths.{Lengths}
 use Rattle.member.specs.declared.plan.Base.{Base}
 use Rattle.member.specs.declared.plan.Plan.{Plan}
 use Rattle.member.specs.Words.{is_steady, is_in_fallback}
-use Rattle.member.specs.States.{Lent, Left, refused, row_of, with_proposed}
+use Rattle.member.specs.States.{Lent, Left, row_of, with_proposed}
 use Rattle.member.specs.See.{next_round}
 use Rattle.member.specs.Sizes.{sized, lengths_of}
 use Rattle.member.specs.Shelf.{shelved}

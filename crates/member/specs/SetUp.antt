@@ -1,5 +1,5 @@
 -- Set up: a fresh member, and what it writes into what it is lent.
-use Rattle.std.specs.Prelude.{ℕ, cond, not, List, [], length, set, replicate, None, Ok, Err, Option, Result, slice_index_or, slice_set}
+use Rattle.std.specs.Prelude.{ℕ, cond, List, [], length, replicate, None, Ok, Err, Option, Result, slice_index_or, slice_set}
 use Rattle.blocks.specs.declared.rank.Kind.TheVariants.{Regular}
 use Rattle.blocks.specs.Layout.{overlay}
 use Rattle.blocks.specs.Ranks.{view, round}

@@ -1,6 +1,6 @@
 -- A member's state and what a call is lent; what changes together is changed as one part.
-use Rattle.std.specs.Prelude.{ℕ, ◌-◌, Bool, true, false, cond, List, [], replicate, Some, None, Ok, Err, Option, Result, slice_index_or, slice_set}
-use Rattle.blocks.specs.Ranks.{view, round}
+use Rattle.std.specs.Prelude.{ℕ, ◌-◌, List, replicate, None, Err, Option, Result, slice_index_or, slice_set}
+use Rattle.blocks.specs.Ranks.{round}
 use Rattle.collect.specs.declared.items.KeptVote.{KeptVote}
 use Rattle.collect.specs.declared.items.KeptTimeout.{KeptTimeout}
 use Rattle.collect.specs.declared.items.Finished.{Finished}

@@ -1,5 +1,5 @@
 -- Timer, in stage steady: the stage becomes timed out, and a timeout with the highest certificate goes to all.
-use Rattle.std.specs.Prelude.{ℕ, ◌+◌, Bool, cond, not, List, [], ◌∷◌, length, Ok}
+use Rattle.std.specs.Prelude.{ℕ, ◌+◌, cond, not, List, [], ◌∷◌, length, Ok}
 use Rattle.attest.specs.declared.attestor.Attestor.{Ghosts}
 use Rattle.blocks.specs.Layout.{overlay}
 use Rattle.wire.specs.declared.form.Form.{Form}

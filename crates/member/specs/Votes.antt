@@ -1,5 +1,5 @@
 -- When a member votes for a block, and what it remembers of the vote.
-use Rattle.std.specs.Prelude.{ℕ, ◌+◌, Bool, cond, not, ◌&&◌, List, ◌==◌, nat_lt}
+use Rattle.std.specs.Prelude.{ℕ, Bool, cond, not, ◌&&◌, List, ◌==◌, nat_lt}
 use Rattle.blocks.specs.declared.head.Head.{Head}
 use Rattle.blocks.specs.declared.rank.Rank.{Rank}
 use Rattle.blocks.specs.declared.statement.Statement.{Statement}

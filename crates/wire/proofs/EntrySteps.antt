@@ -1,5 +1,5 @@
 -- One entry of a certificate after the other.
-use Rattle.std.proofs.Common.{◌≡◌, ℕ, suc, ◌+◌, ◌-◌, ◌*◌, ◌<◌, ◌≤◌, Bool, true, false, ◌&&◌, List, length, get_or, take, drop, Option, sym, refl, ap, ◌∙◌, suc-mul, arith, get_or-take}
+use Rattle.std.proofs.Common.{◌≡◌, ℕ, suc, ◌+◌, ◌-◌, ◌*◌, ◌<◌, ◌≤◌, Bool, true, false, ◌&&◌, List, get_or, take, drop, Option, sym, ap, ◌∙◌, suc-mul, arith, get_or-take}
 use Rattle.wire.specs.Entries.{entry_formed, entries_formed}
 
 -- what is left of the bytes, after the entry k of count

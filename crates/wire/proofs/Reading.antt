@@ -1,12 +1,12 @@
 -- What has been read so far decides what is read.
-use Rattle.std.proofs.Common.{◌≡◌, ℕ, ◌-◌, ◌≤◌, Bool, true, cond, List, length, get_or, take, drop, None, Option, sym, ap, ◌∙◌}
+use Rattle.std.proofs.Common.{◌≡◌, ℕ, ◌-◌, ◌≤◌, Bool, cond, List, length, get_or, take, drop, None, Option, sym, ap, ◌∙◌}
 use Rattle.std.proofs.lemmas.List.{take_rest}
 use Rattle.std.proofs.lemmas.Bool.{le-leb}
 use Rattle.blocks.specs.declared.statement.Statement.{Statement}
 use Rattle.blocks.specs.Statements.{read_statement}
 use Rattle.wire.specs.declared.form.Form.{Form}
 use Rattle.wire.specs.Messages.{Text, by_kind, read_message}
-use Rattle.wire.specs.Certificates.{CertificatePart, certificate_saying, read_certificate}
+use Rattle.wire.specs.Certificates.{certificate_saying, read_certificate}
 
 pub certificate_by : (form : Form) (at : ℕ) (bs : List ℕ) (o : Option Statement) → 44 ≤ length bs → o ≡ read_statement form.members (take 43 bs) → certificate_saying form at bs o ≡ read_certificate form at bs
 certificate_by form at bs o long e =

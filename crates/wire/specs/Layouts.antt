@@ -1,5 +1,5 @@
 -- How certificates, messages and words are laid out, field after field.
-use Rattle.std.specs.Prelude.{ℕ, Bool, List, [], ◌∷◌, ◌++◌, length}
+use Rattle.std.specs.Prelude.{ℕ, List, ◌∷◌, ◌++◌, length}
 use Rattle.std.specs.List.{flat_map}
 use Rattle.coin.specs.Shares.{size}
 use Rattle.digest.specs.Bytes.{bytes16, bytes32}

@@ -1,4 +1,4 @@
-use Rattle.std.proofs.Common.{◌≡◌, List, ◌++◌, length, replicate, ap, ◌∙◌, arith}
+use Rattle.std.proofs.Common.{List, ◌++◌, replicate, ap, ◌∙◌, arith}
 use Rattle.member.proofs.Laid.{two_laid}
 use Rattle.member.proofs.propose.block_bytes.Goals as goal
 

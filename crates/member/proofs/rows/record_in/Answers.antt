@@ -1,4 +1,4 @@
-use Rattle.std.proofs.Common.{◌≡◌, ℕ, ◌-◌, ◌≤◌, Bool, true, false, cond, List, length, sym, refl, ap, ◌∙◌, arith}
+use Rattle.std.proofs.Common.{◌≡◌, ◌-◌, ◌≤◌, Bool, true, false, cond, List, length, sym, refl, arith}
 use Rattle.std.proofs.lemmas.List.{set_past}
 use Rattle.blocks.specs.declared.statement.Statement.{Statement}
 use Rattle.member.specs.declared.state.Row.{Row}

@@ -1,4 +1,4 @@
-use Rattle.std.proofs.Common.{Some, None, rules}
+use Rattle.std.proofs.Common.{None, rules}
 use Rattle.wire.proofs.Reading.{certificate_by}
 use Rattle.wire.proofs.certificate.read_certificate.Goals as goal
 

@@ -1,4 +1,4 @@
-use Rattle.std.proofs.Common.{◌≡◌, List, [], ◌∷◌, length, replicate, ap, ◌∙◌, arith}
+use Rattle.std.proofs.Common.{[], ◌∷◌, length, replicate, ap, ◌∙◌, arith}
 use Rattle.blocks.specs.Statements.{statement_bytes}
 use Rattle.blocks.proofs.Overlays.{wrote_none, wrote_more, wrote_as, overlay_full}
 use Rattle.wire.proofs.words.numbered.Goals as goal

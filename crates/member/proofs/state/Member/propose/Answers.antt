@@ -1,4 +1,4 @@
-use Rattle.std.proofs.Common.{◌≡◌, ◌+◌, ◌*◌, ◌≤◌, sym, ◌∙◌, subst, arith}
+use Rattle.std.proofs.Common.{◌+◌, ◌*◌, ◌≤◌, sym, ◌∙◌, subst, arith}
 use Rattle.wire.specs.declared.form.Form.{Form}
 use Rattle.member.specs.Propose.{planned}
 use Rattle.member.specs.Shelf.{certificate_length}

@@ -1,4 +1,4 @@
-use Rattle.std.proofs.Common.{◌≡◌, ◌+◌, ◌*◌, ◌≤◌, true, length, take, sym, ap, ◌∙◌, subst, arith, rules}
+use Rattle.std.proofs.Common.{◌+◌, ◌*◌, ◌≤◌, sym, subst, arith, rules}
 use Rattle.wire.specs.declared.form.Form.{Form}
 use Rattle.member.specs.Shelf.{certificate_length}
 use Rattle.member.proofs.Rooms.{certificate_room, narrow_tags}

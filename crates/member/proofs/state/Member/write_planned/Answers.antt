@@ -1,4 +1,4 @@
-use Rattle.std.proofs.Common.{◌≡◌, length, ap, ◌∙◌}
+use Rattle.std.proofs.Common.{length, ap, ◌∙◌}
 use Rattle.blocks.specs.Layout.{overlay}
 use Rattle.member.proofs.Planned.{planned_message}
 use Rattle.member.proofs.state.Member.write_planned.Goals as goal
