@@ -43,8 +43,8 @@ fn certificate(rt: HostRuntime) -> Result<(), Fail> {
     let item = places[2].ok_or("empty")?;
     let mut out = [0xee; 51];
     assert_eq!(rt; write_certificate(&places, &item, 2, &mut out), Some(50));
-    assert!(rt; &out[0..11] == &[0, 0, 2, 0, 0, 0, 1, 0, 0, 0, 5]);
-    assert!(rt; &out[43..51] == &[2, 1, 1, 2, 3, 5, 6, 0xee]);
+    assert!(rt; &out[0..11] == [0, 0, 2, 0, 0, 0, 1, 0, 0, 0, 5].as_slice());
+    assert!(rt; &out[43..51] == [2, 1, 1, 2, 3, 5, 6, 0xee].as_slice());
     assert_eq!(rt; write_certificate(&places, &item, 2, &mut out[0..49]), None);
     Ok(())
 }
