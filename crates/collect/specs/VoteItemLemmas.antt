@@ -1,3 +1,4 @@
+-- The order of ranks, as the law of the votes' likeness needs it.
 use Rattle.std.specs.Prelude.{◌≡◌, true, false}
 use Rattle.std.proofs.Common.{arith}
 use Rattle.std.proofs.lemmas.Bool.Decides.{nat_tests}
