@@ -50,7 +50,7 @@ module _ (m : Member) (t : List Held) (links : LinkedMember m t) where
         | inl pos ↦ (links.follows i pos (omega arith)).named
         | inr none ↦
             let zeroth : i ≡ 0 = omega arith in
-            let at-root : round_at t i ≡ 0 = ap (round_at t) zeroth ∙ ap (λ b. b.head.round.0) links.root in
+            let at_root : round_at t i ≡ 0 = ap (round_at t) zeroth ∙ ap (λ b. b.head.round.0) links.root in
             absurd (omega (arith, right.of_round))
       ]
 

@@ -67,13 +67,13 @@ in_timeout m v s broken near rules f =
 module _ (m : Member) (n : ℕ) (table : List Held) (h : Head) (s : Statement) (near : ahead m h.view ≡ false) (rules : proposal_breaks n table m.held h s ≡ false) where
   pub following : follows h s ≡ true
   following =
-      let after-led = (or_parts (not (led n h)) (not (follows h s) || (not (stands h s) || mismatched table m.held s)) rules).1 in
-      not-false _ (or_parts (not (follows h s)) (not (stands h s) || mismatched table m.held s) after-led).0
+      let after_led = (or_parts (not (led n h)) (not (follows h s) || (not (stands h s) || mismatched table m.held s)) rules).1 in
+      not-false _ (or_parts (not (follows h s)) (not (stands h s) || mismatched table m.held s) after_led).0
 
   rest : (not (stands h s) || mismatched table m.held s) ≡ false
   rest =
-      let after-led = (or_parts (not (led n h)) (not (follows h s) || (not (stands h s) || mismatched table m.held s)) rules).1 in
-      (or_parts (not (follows h s)) (not (stands h s) || mismatched table m.held s) after-led).1
+      let after_led = (or_parts (not (led n h)) (not (follows h s) || (not (stands h s) || mismatched table m.held s)) rules).1 in
+      (or_parts (not (follows h s)) (not (stands h s) || mismatched table m.held s) after_led).1
 
   standing : stands h s ≡ true
   standing = not-false _ (or_parts (not (stands h s)) (mismatched table m.held s) rest).0
@@ -87,7 +87,7 @@ module _ (m : Member) (n : ℕ) (table : List Held) (h : Head) (s : Statement) (
       let most = ltb-false m.phase.view.0 h.view.0 near in
       let kind = tall (ltb-true 1 h.height high) in
       elim (and_cases (is_fallback h.kind) _ (not-true _ sees)) [
-        | inl no-fallback ↦ absurd (both_ways (is_fallback h.kind) no-fallback kind)
+        | inl no_fallback ↦ absurd (both_ways (is_fallback h.kind) no_fallback kind)
         | inr rest ↦ elim (and_cases (eqb h.view.0 m.phase.view.0) _ rest) [
           | inl other ↦ let apart = eqb-false h.view.0 m.phase.view.0 other in omega (arith, apart)
           | inr low ↦ absurd (both_ways (ltb 1 h.height) low high)
@@ -101,8 +101,8 @@ module _ (m : Member) (n : ℕ) (table : List Held) (h : Head) (s : Statement) (
         let same = eqb-true s.view.0 h.view.0 (and_parts (eqb s.view.0 h.view.0) _ (and_parts (is_fallback s.kind) _ on).1).0 in
         let low = above tall sees high in
         omega arith
-    | inr no-high ↦
-        let on : opens h.view s ≡ true = sym (cond-false (ltb 1 h.height) (continues h s) (opens h.view s) no-high) ∙ standing in
+    | inr no_high ↦
+        let on : opens h.view s ≡ true = sym (cond-false (ltb 1 h.height) (continues h s) (opens h.view s) no_high) ∙ standing in
         let low = opens_below h.view s on f in
         let most = ltb-false m.phase.view.0 h.view.0 near in
         omega arith

@@ -120,9 +120,9 @@ module _ {S : Type 0} (m : Member) (l : Lent S) (Signed : S → Type 0) (same : 
       (λ e. accepts _ _ _ same (unmoved m l _ _ _ refl refl (past_kept m _ refl refl) refl refl))
     where
       by_kind : (m' : Member) → is_fallback v.statement.kind ≡ false → Official m m' (Some v.statement) v.statement
-      by_kind m' no-fallback = elim (cases_kind v.statement.kind) [
+      by_kind m' no_fallback = elim (cases_kind v.statement.kind) [
         | inl r ↦ regular refl r
-        | inr f ↦ absurd (both_ways (is_fallback v.statement.kind) no-fallback f.1)
+        | inr f ↦ absurd (both_ways (is_fallback v.statement.kind) no_fallback f.1)
       ]
 
   timeout_outcome : (g : Ghosts S) (form : Form) (t : TimeoutText) → NoneBroken (timeout_rules g form m l t) →

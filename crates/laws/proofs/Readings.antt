@@ -38,9 +38,9 @@ head_fits n bs =
     cond_both (eqb (length bs) head_length && head_formed n bs) (Some (head_of bs)) None (λ o. IfSome o Tall)
     (λ e.
     let formed = (and_parts (eqb (length bs) head_length) (head_formed n bs) e).1 in
-    let after-least = (and_parts (ltb 0 (get_or bs 2 0)) _ formed).1 in
-    let after-most = (and_parts (leb (get_or bs 2 0) n) _ after-least).1 in
-    let fits = (and_parts (height_fits (get_or bs 0 0) (get_or bs 1 0)) _ after-most).0 in
+    let after_least = (and_parts (ltb 0 (get_or bs 2 0)) _ formed).1 in
+    let after_most = (and_parts (leb (get_or bs 2 0) n) _ after_least).1 in
+    let fits = (and_parts (height_fits (get_or bs 0 0) (get_or bs 1 0)) _ after_most).0 in
     λ high. tall_kind (eqb (get_or bs 0 0) 0) (get_or bs 1 0) _ fits high)
     (λ e. tt)
 

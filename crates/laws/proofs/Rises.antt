@@ -61,10 +61,10 @@ vote_later p c rows h parent e = record {
   views = omega arith;
   voted = rising (is_fallback h.kind) (votes_fallback p c (row_of rows h.proposer) h parent) (votes_regular p c h parent) p.voted h.round e
       (λ r.
-      let of-view = (and_parts (is_steady p.stage) _ r).1 in
-      let of-round = (and_parts (eqb h.view.0 p.view.0) _ of-view).1 in
-      let above-voted = (and_parts (eqb h.round.0 c.round.0) _ of-round).1 in
-      ltb-true p.voted.0 h.round.0 (and_parts (ltb p.voted.0 h.round.0) (respects_lock c parent) above-voted).0);
+      let of_view = (and_parts (is_steady p.stage) _ r).1 in
+      let of_round = (and_parts (eqb h.view.0 p.view.0) _ of_view).1 in
+      let above_voted = (and_parts (eqb h.round.0 c.round.0) _ of_round).1 in
+      ltb-true p.voted.0 h.round.0 (and_parts (ltb p.voted.0 h.round.0) (respects_lock c parent) above_voted).0);
 }
 
 pub exit_later : (p : Phase) (r : Row) → Later p (exit_phase p r)

@@ -4,7 +4,7 @@ use Rattle.blocks.specs.declared.rank.Kind.TheVariants.{Regular}
 use Rattle.blocks.specs.Layout.{overlay}
 use Rattle.blocks.specs.Ranks.{view, round}
 use Rattle.blocks.specs.Statements.{genesis, rank_of}
-use Rattle.table.specs.Places.{genesis as genesisBlock}
+use Rattle.table.specs.Places.{genesis as genesis_block}
 use Rattle.member.specs.declared.types.Stage.TheVariants.{Steady}
 use Rattle.member.specs.declared.state.Member.{Member}
 use Rattle.member.specs.declared.state.Site.{Site}
@@ -35,7 +35,7 @@ emptied places = replicate (length places) None
 
 -- genesis is held at place 0
 abbrev pub prepared_table : List Held → List Held
-prepared_table table = slice_set table 0 genesisBlock
+prepared_table table = slice_set table 0 genesis_block
 
 -- its certificate of 44 zero bytes stands at place 0 of the shelf
 abbrev pub prepared_shelf : List (List ℕ) → List (List ℕ)

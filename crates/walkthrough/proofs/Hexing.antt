@@ -12,9 +12,9 @@ hex_more (b ∷ bs) (suc i) h = ap (λ (l : List ℕ). hex_digit (b / 16) ∷ he
 
 -- the same with the two digits as characters
 pub hex_encoded : (bs : List ℕ) (i high low : ℕ) → i < length bs → high ≡ hex_digit (get_or bs i 0 / 16) → low ≡ hex_digit (get_or bs i 0 % 16) → high < 128 → low < 128 → hex_text (take i bs) ++ (encode high ++ encode low) ≡ hex_text (take (i + 1) bs)
-hex_encoded bs i high low within is-high is-low h l =
+hex_encoded bs i high low within is_high is_low h l =
     let next : suc i ≡ i + 1 = omega arith in
     (λ k. hex_text (take i bs) ++ (encode_ascii high h k ++ encode_ascii low l k))
-    ∙ (λ k. hex_text (take i bs) ++ (is-high k ∷ is-low k ∷ []))
+    ∙ (λ k. hex_text (take i bs) ++ (is_high k ∷ is_low k ∷ []))
     ∙ hex_more bs i within
     ∙ ap (λ (n : ℕ). hex_text (take n bs)) next
