@@ -106,19 +106,15 @@ def renames(wanted, given):
     return out, clash, definitions
 
 
-def pieces_antt(text):
+# What is no code: comments and strings.
+APART_IN_ANTT = re.compile(r"--[ \t][^\n]*|\"[^\"\n]*\"")
+APART_IN_RT = re.compile(r"//[^\n]*|b?\"(?:[^\"\\]|\\.)*\"|'(?:[^'\\]|\\.)'")
+
+
+def pieces(text, apart):
     """(is code, piece), comments and strings apart."""
     at = 0
-    for m in re.finditer(r"--[ \t][^\n]*|\"[^\"\n]*\"", text):
-        yield True, text[at:m.start()]
-        yield False, m.group(0)
-        at = m.end()
-    yield True, text[at:]
-
-
-def pieces_rt(text):
-    at = 0
-    for m in re.finditer(r"//[^\n]*|b?\"(?:[^\"\\]|\\.)*\"|'(?:[^'\\]|\\.)'", text):
+    for m in apart.finditer(text):
         yield True, text[at:m.start()]
         yield False, m.group(0)
         at = m.end()
@@ -139,9 +135,9 @@ def respelled(text, names, path, doubtful):
 
 
 def turned(path, text, names, doubtful):
-    pieces = pieces_rt if path.endswith(".rt") else pieces_antt
+    apart = APART_IN_RT if path.endswith(".rt") else APART_IN_ANTT
     camel = {k: v for k, v in names.items() if "-" not in k and k[0].islower()}
-    return "".join(respelled(t, names, path, doubtful) if code else respelled(t, camel, path, doubtful) if not t.startswith(("\"", "b\"", "'")) else t for code, t in pieces(text))
+    return "".join(respelled(t, names, path, doubtful) if code else respelled(t, camel, path, doubtful) if not t.startswith(("\"", "b\"", "'")) else t for code, t in pieces(text, apart))
 
 
 def main():
