@@ -3,7 +3,7 @@ use crate::fault::Fault;
 use crate::lot_block::LOT_BLOCK_BYTES;
 use crate::sample::{MEMBERS, block};
 use crate::signing::{
-    CERTIFICATE_BYTES, ELECTING_BYTES, QUORUM_BYTES, certificate, electing_entries, quorum_entries,
+    CERTIFICATE_BYTES, ShareEntry, SignerEntry, certificate, electing_entries, quorum_entries,
 };
 use attest::book::Book;
 use attest::entry::Entry;
@@ -42,9 +42,10 @@ pub struct Samples {
     head: Head,
     block: [u8; LOT_BLOCK_BYTES],
     statement: Statement,
+    votes: [SignerEntry; 3],
     certificate: [u8; CERTIFICATE_BYTES],
-    timeouts: [u8; QUORUM_BYTES],
-    shares: [u8; ELECTING_BYTES],
+    timeouts: [SignerEntry; 3],
+    shares: [ShareEntry; 2],
 }
 
 impl Samples {
@@ -55,18 +56,15 @@ impl Samples {
         let mut table = [Entry::blank(); 8];
         let group = GroupSize::of(MEMBERS).ok_or(Fault::Step)?;
         let mut book = Book::over(&mut table, group);
-        let votes = quorum_entries(&mut book, &vote_words(&statement)).ok_or(Fault::Step)?;
-        let timeouts = quorum_entries(&mut book, &timeout_words(VIEW)).ok_or(Fault::Step)?;
-        let shares = electing_entries(&mut book, VIEW, VALUES).ok_or(Fault::Step)?;
-        let block = lot_block.bytes();
-        let certificate = certificate(&statement, &votes);
+        let votes = quorum_entries(&mut book, &vote_words(&statement))?;
         Ok(Samples {
             head: lot_block.head,
-            block,
+            block: lot_block.bytes(),
             statement,
-            certificate,
-            timeouts,
-            shares,
+            votes,
+            certificate: certificate(&statement, &votes),
+            timeouts: quorum_entries(&mut book, &timeout_words(VIEW))?,
+            shares: electing_entries(&mut book, VIEW, VALUES)?,
         })
     }
 
@@ -101,30 +99,35 @@ impl Samples {
         })
     }
 
-    // The vote of member 1, whose tag is the first of the certificate's.
+    // The vote of member 1.
     fn vote(&self) -> Message<'_> {
+        let [[signer, tag @ ..], ..] = &self.votes;
         Message::Vote(Vote {
             statement: self.statement,
-            signer: 1,
-            tag: &self.certificate[45..49],
+            signer: *signer,
+            tag,
         })
     }
 
+    // The timeout of member 1.
     fn timeout(&self) -> Message<'_> {
+        let [[signer, tag @ ..], ..] = &self.timeouts;
         Message::Timeout(Timeout {
             view: VIEW,
-            signer: 1,
-            tag: &self.timeouts[1..5],
+            signer: *signer,
+            tag,
             certificate: self.certified(),
         })
     }
 
+    // The share of member 1.
     fn share(&self) -> Message<'_> {
+        let [[member, high, low, tag @ ..], ..] = &self.shares;
         Message::Share(Share {
             view: VIEW,
-            member: 1,
-            value: 103,
-            tag: &self.shares[3..7],
+            member: *member,
+            value: u16::from_be_bytes([*high, *low]),
+            tag,
         })
     }
 
@@ -136,13 +139,13 @@ impl Samples {
             3 => self.timeout(),
             4 => Message::TimeoutCertificate(Gathered {
                 view: VIEW,
-                entries: &self.timeouts,
+                entries: self.timeouts.as_flattened(),
             }),
             5 => Message::Certificate(self.certified()),
             6 => self.share(),
             _ => Message::CoinCertificate(Gathered {
                 view: VIEW,
-                entries: &self.shares,
+                entries: self.shares.as_flattened(),
             }),
         }
     }
@@ -151,8 +154,6 @@ impl Samples {
 // The message in a buffer, and its length.
 pub fn written(message: &Message<'_>) -> Result<([u8; ROOM], usize), Fault> {
     let mut out = [0; ROOM];
-    match write(FORM, message, &mut out) {
-        Ok(len) => Ok((out, len)),
-        Err(_) => Err(Fault::Step),
-    }
+    let len = write(FORM, message, &mut out).map_err(|_| Fault::Step)?;
+    Ok((out, len))
 }

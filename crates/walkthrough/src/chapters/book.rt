@@ -22,7 +22,7 @@ pub fn chapter(heap: Global) -> Result<String, Fault> {
     let mut book = Book::over(&mut table, group);
     writeln!(text, "3. Three members vote in a book of {ENTRIES} entries")?;
     for member in 1..4 {
-        let tag = sign_as(&mut book, member, &words).ok_or(Fault::Step)?;
+        let tag = sign_as(&mut book, member, &words)?;
         let accepted = book.accept(member, &words, &tag);
         writeln!(
             text,
@@ -35,11 +35,9 @@ pub fn chapter(heap: Global) -> Result<String, Fault> {
     writeln!(text, "  place 0 as member 2's tag: {}", verdict(stranger))?;
     let past = book.accept(4, &words, &[0, 0, 0, 3]);
     writeln!(text, "  place 3, which has no entry: {}", verdict(past))?;
-    match sign_as(&mut book, 4, &words) {
-        Some(_) => Err(Fault::Step),
-        None => {
-            writeln!(text, "  member 4 is not signed for: the book is full")?;
-            Ok(text)
-        }
+    if sign_as(&mut book, 4, &words).is_ok() {
+        return Err(Fault::Step);
     }
+    writeln!(text, "  member 4 is not signed for: the book is full")?;
+    Ok(text)
 }
