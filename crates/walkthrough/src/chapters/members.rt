@@ -7,7 +7,7 @@ use attest::entry::Entry;
 use attest::group::GroupSize;
 use member::state::Member;
 use member::types::{Answer, Refusal};
-use std::alloc::Global;
+use std::alloc::{AllocError, Global};
 use table::held::{GENESIS, Held};
 use wire::limits::{CERTIFICATE_MOST, OUTGOING_BYTES};
 
@@ -15,12 +15,12 @@ use wire::limits::{CERTIFICATE_MOST, OUTGOING_BYTES};
 const ENTRIES: usize = 8;
 
 pub fn chapter(heap: Global) -> Result<String, Fault> {
-    let mut text = String::new(heap);
     let mut entries = [Entry::blank(); ENTRIES];
     let group = GroupSize::of(MEMBERS).ok_or(Fault::Step)?;
     let mut book = Book::over(&mut entries, group);
+    let mut text = String::new(heap);
     writeln!(text, "8. Four members on one book")?;
-    for own in 1..5 {
+    for own in 1..=MEMBERS {
         write_member(&mut text, &mut book, own)?;
     }
     Ok(text)
@@ -35,7 +35,7 @@ fn write_member(text: &mut String, book: &mut Book<'_>, own: u8) -> Result<(), F
     let mut table = [GENESIS; 8];
     let mut shelf = [[0; CERTIFICATE_MOST]; 5];
     let mut out = [0; OUTGOING_BYTES];
-    let Ok(mut member) = Member::set_up(
+    let mut member = Member::set_up(
         own,
         MEMBERS,
         &mut votes,
@@ -45,13 +45,10 @@ fn write_member(text: &mut String, book: &mut Book<'_>, own: u8) -> Result<(), F
         &mut table,
         &mut shelf,
         &out,
-    ) else {
-        return Err(Fault::Step);
-    };
+    )
+    .map_err(|_| Fault::Step)?;
     write_sheet(text, &member, &table)?;
-    if book.hand_to(own).is_err() {
-        return Err(Fault::Step);
-    }
+    book.hand_to(own).map_err(|_| Fault::Step)?;
     if own == 1 {
         let payload = LOT.payload();
         let answer = member.propose(
@@ -76,15 +73,12 @@ fn write_member(text: &mut String, book: &mut Book<'_>, own: u8) -> Result<(), F
 
 // The member's sheet, its lines one after another.
 fn write_sheet(text: &mut String, member: &Member, table: &[Held]) -> Result<(), Fault> {
-    let mut sheet = [0; 256];
-    let Ok(length) = member.sheet(table, &mut sheet) else {
-        return Err(Fault::Step);
-    };
-    write!(text, "  ")?;
-    for i in 0..length.saturating_sub(1).min(256) {
-        let byte = sheet[i];
-        let shown = if byte == 10 { ' ' } else { char::from(byte) };
-        write!(text, "{shown}")?;
+    let mut room = [0; 256];
+    let length = member.sheet(table, &mut room).map_err(|_| Fault::Step)?;
+    let sheet = str::from_utf8(&room[..length]).map_err(|_| Fault::Step)?;
+    write!(text, " ")?;
+    for line in sheet.lines() {
+        write!(text, " {line}")?;
     }
     writeln!(text)?;
     Ok(())
@@ -96,16 +90,17 @@ fn write_answer(
     what: &str,
     answer: Result<Answer, Refusal>,
     out: &[u8],
-) -> Result<(), Fault> {
+) -> Result<(), AllocError> {
     match answer {
-        Ok(answer) => {
-            let length = answer.length.min(out.len());
-            writeln!(text, "    it {what}: a message of {length} bytes to all")?;
-            writeln!(text, "    {}", Hex(&out[0..length]))?;
+        Ok(Answer { length, .. }) => {
+            let message = &out[..length.min(out.len())];
+            writeln!(
+                text,
+                "    it {what}: a message of {length} bytes to all
+    {}",
+                Hex(message)
+            )
         }
-        Err(refusal) => {
-            writeln!(text, "    it {what}: refused with {}", refusal.number())?;
-        }
+        Err(refusal) => writeln!(text, "    it {what}: refused with {}", refusal.number()),
     }
-    Ok(())
 }
