@@ -11,6 +11,7 @@ use attest::group::GroupSize;
 use blocks::head::Head;
 use blocks::rank::View;
 use blocks::statement::Statement;
+use std::alloc::Global;
 use wire::certificate::Certificate;
 use wire::form::Form;
 use wire::message::*;
@@ -25,8 +26,8 @@ pub const FORM: Form = Form {
     greatest: 256,
 };
 
-// Room for every sample, and a spare byte.
-pub const ROOM: usize = 128;
+// Room for every sample.
+const SAMPLE_MOST: usize = 97;
 
 // The bytes of genesis' certificate, all of them 0.
 const GENESIS: [u8; 44] = [0; 44];
@@ -131,19 +132,19 @@ impl Samples {
         })
     }
 
-    // The message of a kind; of every other number that of kind 7.
-    pub fn message(&self, kind: u8) -> Message<'_> {
+    // The message of a kind.
+    pub fn message(&self, kind: MessageKind) -> Message<'_> {
         match kind {
-            1 => self.proposal(),
-            2 => self.vote(),
-            3 => self.timeout(),
-            4 => Message::TimeoutCertificate(Gathered {
+            MessageKind::Proposal => self.proposal(),
+            MessageKind::Vote => self.vote(),
+            MessageKind::Timeout => self.timeout(),
+            MessageKind::TimeoutCertificate => Message::TimeoutCertificate(Gathered {
                 view: VIEW,
                 entries: self.timeouts.as_flattened(),
             }),
-            5 => Message::Certificate(self.certified()),
-            6 => self.share(),
-            _ => Message::CoinCertificate(Gathered {
+            MessageKind::Certificate => Message::Certificate(self.certified()),
+            MessageKind::Share => self.share(),
+            MessageKind::CoinCertificate => Message::CoinCertificate(Gathered {
                 view: VIEW,
                 entries: self.shares.as_flattened(),
             }),
@@ -151,9 +152,10 @@ impl Samples {
     }
 }
 
-// The message in a buffer, and its length.
-pub fn written(message: &Message<'_>) -> Result<([u8; ROOM], usize), Fault> {
-    let mut out = [0; ROOM];
-    let len = write(FORM, message, &mut out).map_err(|_| Fault::Step)?;
-    Ok((out, len))
+// The bytes of a sample.
+pub fn written(heap: Global, message: &Message<'_>) -> Result<Vec<u8>, Fault> {
+    let mut bytes = vec![in heap; 0; SAMPLE_MOST]?;
+    let length = write(FORM, message, &mut bytes).map_err(|_| Fault::Step)?;
+    bytes.truncate(length);
+    Ok(bytes)
 }
