@@ -8,7 +8,7 @@ ghost use Rattle.walkthrough.specs.Judging.{judged};
 
 use member::types::Refusal;
 use wire::form::Form;
-use wire::message::MessageKind;
+use wire::kind::MessageKind;
 use wire::reader::read;
 
 // The kind of the message that the bytes are; refused are bytes that have not the form of one.

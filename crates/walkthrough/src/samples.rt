@@ -14,6 +14,7 @@ use blocks::statement::Statement;
 use std::alloc::Global;
 use wire::certificate::Certificate;
 use wire::form::Form;
+use wire::kind::MessageKind;
 use wire::message::*;
 use wire::parts::Part;
 use wire::words::{timeout_words, vote_words};

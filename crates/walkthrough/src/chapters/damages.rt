@@ -6,7 +6,7 @@ use crate::samples::{FORM, Samples, written};
 use blocks::head::Head;
 use blocks::layout::put;
 use std::alloc::{AllocError, Global};
-use wire::message::MessageKind;
+use wire::kind::MessageKind;
 
 // Bytes that are put at a place of the sample of a kind.
 #[derive(Clone, Copy)]
@@ -108,8 +108,8 @@ fn proposal(heap: Global, payload: u16) -> Result<Vec<u8>, Fault> {
         payload,
         ..block.head
     };
-    let mut bytes = vec![in heap; u8::from(MessageKind::Proposal)]?;
-    bytes.extend_from_slice(&head.bytes())?;
-    bytes.resize(90 + payload as usize, 0)?;
+    let mut bytes = vec![in heap; 0; 90 + payload as usize]?;
+    let at = put(&mut bytes, 0, &[u8::from(MessageKind::Proposal)]);
+    put(&mut bytes, at, &head.bytes());
     Ok(bytes)
 }

@@ -7,6 +7,7 @@ use blocks::rank::View;
 use blocks::statement::Statement;
 use std::alloc::{AllocError, Global};
 use wire::certificate::Certificate;
+use wire::kind::MessageKind;
 use wire::message::*;
 use wire::reader::read;
 
@@ -111,7 +112,7 @@ fn write_statement(text: &mut String, statement: &Statement, name: &str) -> Resu
         text,
         "    kind {}, height {}, proposer {}, view {}, round {}
     {name} {}",
-        statement.kind.byte(),
+        u8::from(statement.kind),
         statement.height,
         statement.proposer,
         statement.view.0,
