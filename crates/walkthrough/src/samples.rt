@@ -103,33 +103,33 @@ impl Samples {
 
     // The vote of member 1.
     fn vote(&self) -> Message<'_> {
-        let [[signer, tag @ ..], ..] = &self.votes;
+        let entry = &self.votes[0];
         Message::Vote(Vote {
             statement: self.statement,
-            signer: *signer,
-            tag,
+            signer: entry[0],
+            tag: &entry[1..],
         })
     }
 
     // The timeout of member 1.
     fn timeout(&self) -> Message<'_> {
-        let [[signer, tag @ ..], ..] = &self.timeouts;
+        let entry = &self.timeouts[0];
         Message::Timeout(Timeout {
             view: VIEW,
-            signer: *signer,
-            tag,
+            signer: entry[0],
+            tag: &entry[1..],
             certificate: self.certified(),
         })
     }
 
     // The share of member 1.
     fn share(&self) -> Message<'_> {
-        let [[member, high, low, tag @ ..], ..] = &self.shares;
+        let entry = &self.shares[0];
         Message::Share(Share {
             view: VIEW,
-            member: *member,
-            value: u16::from_be_bytes([*high, *low]),
-            tag,
+            member: entry[0],
+            value: u16::from_be_bytes([entry[1], entry[2]]),
+            tag: &entry[3..],
         })
     }
 

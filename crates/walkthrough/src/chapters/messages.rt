@@ -141,8 +141,8 @@ fn write_signer(text: &mut String, signer: u8, tag: &[u8]) -> Result<(), AllocEr
 // Entries of a signer and a tag.
 fn write_signers(text: &mut String, entries: &[u8]) -> Result<(), AllocError> {
     let (entries, _) = entries.as_chunks::<5>();
-    for [signer, tag @ ..] in entries {
-        write_signer(text, *signer, tag)?;
+    for entry in entries {
+        write_signer(text, entry[0], &entry[1..])?;
     }
     Ok(())
 }
@@ -158,8 +158,9 @@ fn write_share(text: &mut String, member: u8, value: u16, tag: &[u8]) -> Result<
 // Entries of a member, a value and the dealer's tag.
 fn write_shares(text: &mut String, entries: &[u8]) -> Result<(), AllocError> {
     let (entries, _) = entries.as_chunks::<7>();
-    for [member, high, low, tag @ ..] in entries {
-        write_share(text, *member, u16::from_be_bytes([*high, *low]), tag)?;
+    for entry in entries {
+        let value = u16::from_be_bytes([entry[1], entry[2]]);
+        write_share(text, entry[0], value, &entry[3..])?;
     }
     Ok(())
 }
