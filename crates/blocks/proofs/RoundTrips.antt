@@ -113,7 +113,7 @@ module _ (n : ℕ) (bs : List ℕ) (f : Front n bs) where
   }
 
 -- what a passed test gave
-given : {A : Type 0} (b : Bool) (x a : A) → cond b (Some x) None ≡ Some a → (b ≡ true) × (x ≡ a)
+pub given : {A : Type 0} (b : Bool) (x a : A) → cond b (Some x) None ≡ Some a → (b ≡ true) × (x ≡ a)
 given true x a e = (refl, cc)
 given false x a e = let z : ◌≡◌ {A = ℕ} 0 1 = cc in absurd (omega arith)
 
@@ -156,7 +156,7 @@ statements_round_trip n = record {
 -- Heads
 
 -- the head with the fields of a statement, whose id is the parent's, and with this payload
-abbrev heading : Statement → ℕ → Head
+abbrev pub heading : Statement → ℕ → Head
 heading s payload = record { kind = s.kind; height = s.height; proposer = s.proposer; view = s.view; round = s.round; parent = s.id; payload = payload }
 
 number_past : (p q : List ℕ) → length p ≡ 32 → number16 (p ++ q) 32 ≡ number16 q 0

@@ -2,8 +2,8 @@
 ghost use Rattle.std.specs.Prelude.{◌≡◌};
 ghost use Rattle.blocks.specs.Heads.{block_id, head_bytes, read_head, said};
 
-use crate::layout::front_and_length;
-use crate::limits::{ID_BYTES, PAYLOAD_MOST};
+use crate::layout::put;
+use crate::limits::{HEAD_BYTES, PAYLOAD_MOST};
 use crate::rank::{Kind, Round, View};
 use crate::statement::Statement;
 use digest::Sha256;
@@ -54,8 +54,10 @@ impl Head {
     pub fn bytes(&self) -> [u8; 45]
         ensures { result ≡ head_bytes self.now }
     {
-        let front = self.said(self.parent).bytes();
-        front_and_length(&front, self.payload)
+        let mut out = [0; HEAD_BYTES];
+        let at = put(&mut out, 0, &self.said(self.parent).bytes());
+        put(&mut out, at, &self.payload.to_be_bytes());
+        out
     }
 
     // What is said of the block that has this head and this id.

@@ -3,7 +3,7 @@ ghost use Rattle.std.specs.Prelude.{◌≡◌};
 ghost use Rattle.blocks.specs.Sameness.{same_statement};
 ghost use Rattle.blocks.specs.Statements.{rank_of, genesis, statement_bytes, read_statement};
 
-use crate::layout::front;
+use crate::layout::put;
 use crate::limits::{ID_BYTES, STATEMENT_BYTES};
 use crate::rank::{Kind, Rank, Round, View};
 
@@ -72,9 +72,14 @@ impl Statement {
     pub fn bytes(&self) -> [u8; 43]
         ensures { result ≡ statement_bytes self.now }
     {
-        let first = [self.kind.into(), self.height, self.proposer];
-        front(first, self.view.0, self.round.0, &self.id)
+        let mut out = [0; STATEMENT_BYTES];
+        let at = put(&mut out, 0, &[self.kind.into(), self.height, self.proposer]);
+        let at = put(&mut out, at, &self.view.0.to_be_bytes());
+        let at = put(&mut out, at, &self.round.0.to_be_bytes());
+        put(&mut out, at, &self.id);
+        out
     }
+
     // Whether the other statement says the same.
     pub fn same(&self, other: &Statement) -> bool
         ensures { result ≡ same_statement self.now other.now }
