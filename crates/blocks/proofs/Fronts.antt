@@ -1,15 +1,13 @@
 -- A head's first 43 bytes are those of a statement with the parent's id, and are read as one.
-use Rattle.std.proofs.Common.{◌≡◌, ℕ, ◌+◌, ◌-◌, ◌<◌, ◌≤◌, false, true, cond, ◌&&◌, eqb, List, length, get_or, take, drop, Some, None, Option, ap, ◌∙◌, sym, subst, refl, ◌⊎◌, inl, inr, ⊎_elim, arith}
+use Rattle.std.proofs.Common.{◌≡◌, ℕ, ◌+◌, ◌-◌, ◌<◌, ◌≤◌, true, eqb, List, length, get_or, take, drop, Some, None, ap, ◌∙◌, sym, subst, ◌⊎◌, inl, inr, arith}
 use Rattle.std.specs.List.{between}
 use Rattle.std.proofs.lemmas.List.{get_or-take, get_or-drop, length-take, drop-take, take-take}
 use Rattle.std.proofs.lemmas.Bool.{and_parts, cases_eq}
 use Rattle.std.proofs.lemmas.Bool.Decides.{nat_tests}
 use Rattle.digest.specs.Bytes.{number16, number32}
 use Rattle.blocks.specs.declared.statement.Statement.{Statement}
-use Rattle.blocks.specs.declared.head.Head.{Head}
-use Rattle.blocks.specs.Ranks.{kind_of, view, round}
 use Rattle.blocks.specs.Statements.{statement_of, statement_formed, read_statement}
-use Rattle.blocks.specs.Heads.{read_head, head_of, head_formed}
+use Rattle.blocks.specs.Heads.{read_head}
 use Rattle.blocks.proofs.RoundTrips.{given, heading}
 
 module _ (n : ℕ) (bs : List ℕ) where

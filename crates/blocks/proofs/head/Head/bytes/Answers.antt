@@ -3,7 +3,7 @@ use Rattle.std.proofs.lemmas.List.{length-append}
 use Rattle.digest.specs.Bytes.{bytes16}
 use Rattle.blocks.specs.Statements.{statement_bytes}
 use Rattle.blocks.specs.Heads.{said}
-use Rattle.blocks.proofs.Overlays.{wrote_none, wrote_more, wrote_as, overlay_full}
+use Rattle.blocks.proofs.Overlays.{wrote_none, wrote_as, overlay_full}
 use Rattle.blocks.proofs.head.Head.bytes.Goals as goal
 
 pub returns : goal.returns

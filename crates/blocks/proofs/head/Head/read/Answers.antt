@@ -1,4 +1,4 @@
-use Rattle.std.proofs.Common.{◌≡◌, arith}
+use Rattle.std.proofs.Common.{arith}
 use Rattle.blocks.proofs.Fronts.{head_unformed, head_refused, head_taken}
 use Rattle.blocks.proofs.head.Head.read.Goals as goal
 
