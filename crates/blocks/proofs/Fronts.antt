@@ -4,11 +4,12 @@ use Rattle.std.specs.List.{between}
 use Rattle.std.proofs.lemmas.List.{get_or-take, get_or-drop, length-take, drop-take, take-take}
 use Rattle.std.proofs.lemmas.Bool.{and_parts, cases_eq}
 use Rattle.std.proofs.lemmas.Bool.Decides.{nat_tests}
+use Rattle.std.proofs.lemmas.Option.{cond_some}
 use Rattle.digest.specs.Bytes.{number16, number32}
 use Rattle.blocks.specs.declared.statement.Statement.{Statement}
 use Rattle.blocks.specs.Statements.{statement_of, statement_formed, read_statement}
 use Rattle.blocks.specs.Heads.{read_head}
-use Rattle.blocks.proofs.RoundTrips.{given, heading}
+use Rattle.blocks.proofs.RoundTrips.{heading}
 
 module _ (n : ℕ) (bs : List ℕ) where
   byte : (i : ℕ) → i < 43 → get_or (take 43 bs) i 0 ≡ get_or bs i 0
@@ -63,10 +64,10 @@ module _ (n : ℕ) (bs : List ℕ) where
     same = subst (λ m. read_statement n (take (m - 2) bs) ≡ Some s) (long s e) e
 
     is : s ≡ statement_of bs
-    is = sym (given _ (statement_of (take 43 bs)) s same).1 ∙ fields
+    is = sym (cond_some _ (statement_of (take 43 bs)) s same).1 ∙ fields
 
     formed : statement_formed n (take 43 bs) ≡ true
-    formed = (and_parts (eqb (length (take 43 bs)) 43) (statement_formed n (take 43 bs)) (given _ (statement_of (take 43 bs)) s same).0).1
+    formed = (and_parts (eqb (length (take 43 bs)) 43) (statement_formed n (take 43 bs)) (cond_some _ (statement_of (take 43 bs)) s same).0).1
 
     pub head_refused : (s.proposer ≡ 0) ⊎ (192 < p) → read_head n bs ≡ None
     head_refused h =
