@@ -165,7 +165,7 @@ fn value_at(coefficients: &[u16], x: u8) -> Option<u16>
 pub fn dealt(n: u8, coefficients: &[u16], member: u8) -> Option<u16>
     ensures { Deals n coefficients.now member result }
 {
-    if coefficients.len() == share_count(n) && is_member(n, member) {
+    if coefficients.len() == share_count(n) as usize && is_member(n, member) {
         value_at(coefficients, member)
     } else {
         None

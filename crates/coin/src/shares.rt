@@ -1,6 +1,6 @@
 // Shares, and what is wrong with those that elect nobody.
 ghost use Rattle.std.specs.Prelude.{◌≡◌, ◌<◌, MatchResult};
-ghost use Rattle.coin.specs.Shares.{size, Tells, Member, Other, Within, AllKnown, Apart, AllWithin, WellFormed, Refused, refusal, member_of};
+ghost use Rattle.coin.specs.Shares.{size, Tells, Member, Other, Within, AllKnown, Apart, AllWithin, WellFormed, Refused, refusal, is_member, member_of};
 
 /// What one member holds of a view's coin.
 #[derive(Clone, Copy)]
@@ -49,18 +49,19 @@ impl ElectError {
     }
 }
 
-// How many shares elect: f + 1.
-pub(crate) fn share_count(n: u8) -> usize
+/// How many shares elect: f + 1.
+pub fn share_count(n: u8) -> u8
     ensures { result ≡ size n }
 {
-    n.saturating_sub(1) as usize / 3 + 1
+    n.saturating_sub(1) / 3 + 1
 }
 
-// Whether the number is a member's: one of 1 to n.
-pub(crate) fn is_member(n: u8, member: u8) -> bool
-    ensures { Tells result (Member n member) }
+/// Whether the number is a member's: one of 1 to n.
+pub fn is_member(n: u8, member: u8) -> bool
+    ensures tells { Tells result (Member n member) }
+    ensures is { result ≡ is_member n member }
 {
-    1 <= member && member <= n
+    0 < member && member <= n
 }
 
 fn members_known(n: u8, shares: &[Share]) -> bool
@@ -105,7 +106,7 @@ fn values_within(greatest: u16, shares: &[Share]) -> bool
 pub(crate) fn examine(n: u8, greatest: u16, shares: &[Share]) -> Result<(), ElectError>
     ensures { MatchResult result (λ _. WellFormed n greatest shares.now) (λ e. Refused n greatest shares.now e) }
 {
-    if shares.len() != share_count(n) {
+    if shares.len() != share_count(n) as usize {
         return Err(ElectError::Count);
     }
     if !members_known(n, shares) {
