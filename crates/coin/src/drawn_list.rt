@@ -28,11 +28,7 @@ fn lowest_of(shares: &[Share]) -> Share
     requires { 0 < length shares.now }
     ensures { result ≡ lowest (slice_index_or shares.now 0 nobody) shares.now }
 {
-    let mut best = shares[0];
-    for share in shares {
-        best = lower_of(best, *share);
-    }
-    best
+    shares.iter().copied().fold(shares[0], lower_of)
 }
 
 impl Coin for DrawnList {

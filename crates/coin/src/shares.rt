@@ -67,12 +67,7 @@ pub fn is_member(n: u8, member: u8) -> bool
 fn members_known(n: u8, shares: &[Share]) -> bool
     ensures { Tells result (AllKnown n shares.now) }
 {
-    for share in shares {
-        if !is_member(n, share.member) {
-            return false;
-        }
-    }
-    true
+    shares.iter().all(|share| is_member(n, share.member))
 }
 
 fn members_apart(shares: &[Share]) -> bool
@@ -81,12 +76,7 @@ fn members_apart(shares: &[Share]) -> bool
     match shares {
         [] => true,
         [first, rest @ ..] => {
-            for other in rest {
-                if !other.is_other(*first) {
-                    return false;
-                }
-            }
-            members_apart(rest)
+            rest.iter().all(|other| other.is_other(*first)) && members_apart(rest)
         }
     }
 }
@@ -94,12 +84,7 @@ fn members_apart(shares: &[Share]) -> bool
 fn values_within(greatest: u16, shares: &[Share]) -> bool
     ensures { Tells result (AllWithin greatest shares.now) }
 {
-    for share in shares {
-        if !share.is_within(greatest) {
-            return false;
-        }
-    }
-    true
+    shares.iter().all(|share| share.is_within(greatest))
 }
 
 // Whether the shares are well formed, or else what is first wrong with them.
