@@ -18,4 +18,4 @@ module _ (f : Share → Share) (ys xs : List Share) (i : ℕ) (inv : ys ≡ map 
   next_mapped y l h e = ap (set ys i) e ∙ map_over_more f xs ys i (slice_index_or ys i nobody) h inv (get_or_default ys i nobody (slice_index_or ys i nobody) l)
 
   pub all_mapped : length xs ≤ i → ys ≡ map f xs
-  all_mapped h = inv ∙ ap (λ zs. map f zs ++ drop i xs) (take_all i xs h) ∙ ap (λ zs. map f xs ++ zs) (drop_all i xs h) ∙ append-nil (map f xs)
+  all_mapped h = simp (take_all i xs h, drop_all i xs h, append-nil) at inv

@@ -106,7 +106,7 @@ fn secret_of(shares: &[Share]) -> u32
         member: 0,
         value: 0,
     }; MOST_SHARES];
-    let used = &mut points[0..shares.len()];
+    let used = &mut points[..shares.len()];
     used.copy_from_slice(shares);
     value_at_zero(used)
 }
@@ -158,8 +158,8 @@ fn value_at(coefficients: &[u16], x: u8) -> u16
 pub fn dealt(n: u8, coefficients: &[u16], member: u8) -> Option<u16>
     ensures { Deals n coefficients.now member result }
 {
-    let residues = coefficients.iter().all(|constant| *constant <= GREATEST);
-    if coefficients.len() == share_count(n) as usize && is_member(n, member) && residues {
+    let residues = coefficients.iter().all(|value| *value <= GREATEST);
+    if residues && coefficients.len() == share_count(n) as usize && is_member(n, member) {
         Some(value_at(coefficients, member))
     } else {
         None

@@ -3,7 +3,7 @@ ghost use Rattle.std.specs.Prelude.{◌≡◌, ◌<◌, MatchResult};
 ghost use Rattle.coin.specs.Shares.{size, Tells, Member, Other, Within, AllKnown, Apart, AllWithin, WellFormed, Refused, refusal, is_member, member_of};
 
 /// What one member holds of a view's coin.
-#[derive(Clone, Copy)]
+#[derive(Clone, Copy, PartialEq, Eq, Debug)]
 pub struct Share {
     pub member: u8,
     pub value: u16,
