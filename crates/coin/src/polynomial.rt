@@ -38,7 +38,7 @@ const INVERSES: [u16; 256] = [
 ];
 
 /// The coin of shared polynomials.
-#[derive(Clone, Copy)]
+#[derive(Clone, Copy, Debug, PartialEq, Eq)]
 pub struct Polynomial;
 
 // The inverse of place + 1.
