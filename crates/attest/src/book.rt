@@ -21,7 +21,7 @@ pub struct Book<'a> {
 }
 
 /// The number is of no member of the group, nor of the dealer.
-#[derive(Clone, Copy)]
+#[derive(Clone, Copy, Debug, PartialEq, Eq)]
 pub struct NotAMember;
 
 impl<'a> Book<'a> {

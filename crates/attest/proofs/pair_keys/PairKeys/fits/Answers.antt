@@ -5,7 +5,7 @@ use Rattle.std.proofs.lemmas.Bool.{eq-eqb, le-leb}
 use Rattle.std.proofs.lemmas.Bool.Decides.{same_from_decides, Decides-eqb}
 use Rattle.attest.specs.Limits.{max_members}
 use Rattle.attest.specs.PairKeys.{fit}
-use Rattle.attest.proofs.pair_keys.attests.fits.Goals as goal
+use Rattle.attest.proofs.pair_keys.PairKeys.fits.Goals as goal
 
 -- where the sizes fit, the shared key decides
 decided : (owner : ℕ) (s r : List (List ℕ)) (b : Bool) → length s ≤ max_members → length r ≡ length s + 1 → 1 ≤ owner → owner ≤ length s

@@ -2,7 +2,7 @@ use Rattle.std.proofs.Common.{◌≡◌, ℕ, ◌-◌, List, ◌++◌, length, d
 use native.Mathlib.Nat.{sub-zero}
 use Rattle.std.proofs.lemmas.List.{drop-replicate}
 use Rattle.attest.specs.PairKeys.{key_room, padded}
-use Rattle.attest.proofs.pair_keys.attests.row.Goals as goal
+use Rattle.attest.proofs.pair_keys.PairKeys.row.Goals as goal
 
 filled : (keys row : List (List ℕ)) → row ≡ keys → row ++ drop (length keys - 0) (replicate key_room (replicate 32 0)) ≡ padded keys
 filled keys row e =
