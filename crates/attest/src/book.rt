@@ -56,11 +56,9 @@ impl<'a> Book<'a> {
         ensures { result ≡ holds_at (entered self.now) place signer words.now }
     {
         let entered = (self.count as usize).min(self.entries.len());
-        if place as usize >= entered {
-            return false;
-        }
-        let entry = self.entries[place as usize];
-        entry.holds(signer, words)
+        self.entries[..entered]
+            .get(place as usize)
+            .is_some_and(|entry| entry.holds(signer, words))
     }
 }
 

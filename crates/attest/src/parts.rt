@@ -30,10 +30,8 @@ pub fn pair_tag(keys: &[Key], words: &[u8], out: &mut [u8]) -> Option<usize>
     if keys.len() > out.len() / PART {
         return None;
     }
-    for i in 0..keys.len() {
-        let key = keys[i];
-        let part = pair_part(&key, words);
-        out[PART * i..PART * i + PART].copy_from_slice(&part);
+    for (i, key) in keys.iter().enumerate() {
+        out[PART * i..PART * i + PART].copy_from_slice(&pair_part(key, words));
     }
     Some(PART * keys.len())
 }
