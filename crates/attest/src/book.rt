@@ -102,10 +102,10 @@ impl Attestor for Book<'_> {
     }
 
     fn accept(&self, signer: u8, words: &[u8], tag: &[u8]) -> bool {
-        let [a, b, c, d] = tag else {
+        let Ok(place) = tag.try_into() else {
             return false;
         };
-        self.holds_at(u32::from_be_bytes([*a, *b, *c, *d]), signer, words)
+        self.holds_at(u32::from_be_bytes(place), signer, words)
     }
 
     fn sign(&mut self, words: &[u8], tag: &mut [u8; TAG_ROOM]) -> Result<usize, WillNotSign> {

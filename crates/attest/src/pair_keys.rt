@@ -52,13 +52,11 @@ impl PairKeys {
     {
         let members = sending.len();
         let at = owner as usize;
-        if members > MAX_MEMBERS as usize || receiving.len() != members + 1 {
-            return false;
-        }
-        if at == 0 || at > members {
-            return false;
-        }
-        sending[at - 1] == receiving[at]
+        members <= MAX_MEMBERS as usize
+            && receiving.len() == members + 1
+            && 0 < at
+            && at <= members
+            && sending[at - 1] == receiving[at]
     }
 
     // The keys, and zeros after them.
