@@ -16,9 +16,7 @@ pub(crate) fn pair_part(key: &Key, words: &[u8]) -> [u8; PART]
     ensures { result ≡ pair_part words.now key.now }
 {
     let code = hmac(key, words);
-    let mut part = [0; PART];
-    part.copy_from_slice(&code[0..PART]);
-    part
+    *code.first_chunk().unwrap()
 }
 
 /// Writes the tag for the words, under the keys that a signer shares with the receivers 1, 2 and on, to the start of `out`
