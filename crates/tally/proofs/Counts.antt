@@ -18,7 +18,7 @@ one_at_most i None = omega arith
 one_at_most i (Some y) = omega arith
 
 module _ {T : Type 0} (alike : T → T → Bool) (x : T) where
-  met_at_most : (i : ℕ) (places : List (Option T)) → length (alike_in alike x i places) ≤ length places
+  pub met_at_most : (i : ℕ) (places : List (Option T)) → length (alike_in alike x i places) ≤ length places
   met_at_most i [] = omega arith
   met_at_most i (p ∷ places) =
       let one = one_at_most i (if_alike alike x p) in
