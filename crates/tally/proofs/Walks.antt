@@ -17,9 +17,6 @@ module _ {T : Type 0} (alike : T → T → Bool) (x : T) where
   pub unlike_kept : (p : Option T) (y : T) → p ≡ Some y → alike y x ≡ false → if_alike alike x p ≡ None
   unlike_kept p y is other = ap (if_alike alike x) is ∙ cond-false (alike y x) _ _ other
 
-  pub none_kept : (p : Option T) → p ≡ None → if_alike alike x p ≡ None
-  none_kept p is = ap (if_alike alike x) is
-
   pub kept_all : (places : List (Option T)) (i : ℕ) → length places ≤ i → kept_alike alike x places i ≡ []
   kept_all places i past = at_drop_all (alike_in alike x i) places i past
 
