@@ -116,7 +116,7 @@ pub fn clear<T: Item>(places: &mut [Option<T>])
 /// The lent places, one for each member.
 #[derive(Drop)]
 pub struct Tally<'a, T> {
-    places: &'a mut [Option<T>],
+    pub places: &'a mut [Option<T>],
 }
 
 impl<'a, T: Item> Tally<'a, T> {
