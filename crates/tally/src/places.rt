@@ -1,4 +1,4 @@
-ghost use Rattle.std.specs.Prelude.{◌≡◌, ◌<◌, ◌≤◌, true, length, replicate, Some, None, slice_index_or, slice_set};
+ghost use Rattle.std.specs.Prelude.{◌≡◌, ◌<◌, ◌≤◌, true, length, replicate, All, Some, None, slice_index_or, slice_set};
 ghost use Rattle.std.specs.Iterator.{YieldsFirstBy, item_count};
 ghost use Rattle.std.specs.Option.{option_copied};
 ghost use Rattle.tally.specs.Alike.{still_alike};
@@ -55,6 +55,7 @@ impl<'a, T: Item> Iterator for Alike<'a, T> {
 /// The places that keep an item alike to this one.
 pub fn kept_alike<'a, T: Item>(places: &'a [Option<T>], item: &'a T) -> Alike<'a, T>
     ensures walk { still_alike T.Item.alike result ≡ kept_alike T.Item.alike item.now places.now 0 }
+    ensures within { All (λ met. met.0 < length places.now) (still_alike T.Item.alike result) }
     ensures most { length (still_alike T.Item.alike result) ≤ length places.now }
 {
     Alike {
