@@ -4,7 +4,7 @@ use Rattle.std.specs.Option.{option_map}
 use Rattle.std.proofs.ByRecursion.{All-get_or, All-take, All-drop}
 use Rattle.std.proofs.lemmas.List.{append_assoc, length-append, length-drop, length-take-le, take_all, take_at, take-append-drop, drop_at, drop-drop, drop_more, take-take}
 use Rattle.std.proofs.lemmas.Bool.{and_parts, and_from, cases_eq, cond-true, cond-false, leb-true, le-leb, lt-ltb, ltb-true, eqb-true, eq-eqb, ne_eqb}
-use Rattle.coin.specs.Shares.{Member, size}
+use Rattle.coin.specs.Shares.{Member, size, is_member}
 use Rattle.digest.specs.Bytes.{bytes16, bytes32, number16, number32}
 use Rattle.digest.proofs.Bytes.{bytes16_number, bytes32_number, number16_bytes16, number32_bytes32}
 use Rattle.blocks.specs.declared.head.Head.{Head}
@@ -18,7 +18,7 @@ use Rattle.wire.specs.declared.form.Form.{Form}
 use Rattle.wire.specs.Certificates.{CertificatePart, read_certificate}
 use Rattle.wire.specs.Entries.{entries_of, entries_formed}
 use Rattle.wire.specs.Layouts.{gathered_bytes, message_number, body_bytes, message_bytes}
-use Rattle.wire.specs.Messages.{BlockPart, VoteText, TimeoutText, GatheredText, ShareText, Text, proposal, vote, timeout, timeout_certificate, certificate, share, coin_certificate, is_member, block_headed, read_block, proposal_of, read_proposal, vote_saying, read_vote, timeout_with, read_timeout, gathered_formed, gathered, read_timeout_certificate, read_sole, read_share, read_coin_certificate, by_kind, read_message}
+use Rattle.wire.specs.Messages.{BlockPart, VoteText, TimeoutText, GatheredText, ShareText, Text, proposal, vote, timeout, timeout_certificate, certificate, share, coin_certificate, block_headed, read_block, proposal_of, read_proposal, vote_saying, read_vote, timeout_with, read_timeout, gathered_formed, gathered, read_timeout_certificate, read_sole, read_share, read_coin_certificate, by_kind, read_message}
 use Rattle.wire.specs.Quorums.{quorum}
 use Rattle.wire.specs.RoundTrips.{Gathers, payload_of, BlockFits, ProposalFits, VoteFits, TimeoutFits, GatheredFits, ShareFits, TextFits, MessagesRoundTrip, StandsAt, PartsInPlace, AllPartsInPlace, EntriesHold, AllEntriesHold}
 use Rattle.wire.proofs.CertificateTrips.{statement_again, statement_fits, statement_behind, statement_front, certificate_certifies, certificate_holds, certificate_bytes_lem, certificate_fits, certificate_back}
