@@ -9,7 +9,7 @@ use crate::Coin;
 use crate::shares::{ElectError, Share, examine, member_of};
 
 /// The coin of drawn numbers.
-#[derive(Clone, Copy)]
+#[derive(Clone, Copy, Debug, PartialEq, Eq)]
 pub struct DrawnList;
 
 // The share of the lower-numbered member, the first where both are one's.

@@ -1,28 +1,12 @@
 // Shares, and what is wrong with those that elect nobody.
 ghost use Rattle.std.specs.Prelude.{◌≡◌, ◌<◌, MatchResult};
-ghost use Rattle.coin.specs.Shares.{size, Tells, Member, Other, Within, AllKnown, Apart, AllWithin, WellFormed, Refused, refusal, is_member, member_of};
+ghost use Rattle.coin.specs.Shares.{size, Tells, Member, AllKnown, Apart, AllWithin, WellFormed, Refused, refusal, is_member, member_of};
 
 /// What one member holds of a view's coin.
-#[derive(Clone, Copy)]
+#[derive(Clone, Copy, PartialEq, Eq, Debug)]
 pub struct Share {
     pub member: u8,
     pub value: u16,
-}
-
-impl Share {
-    // Whether the value is at most the greatest.
-    fn is_within(self, greatest: u16) -> bool
-        ensures { Tells result (Within greatest self) }
-    {
-        self.value <= greatest
-    }
-
-    // Whether this is a share of another member than `first`.
-    fn is_other(self, first: Share) -> bool
-        ensures { Tells result (Other first self) }
-    {
-        self.member != first.member
-    }
 }
 
 /// Why shares elect nobody, in the order of the tests.
@@ -76,7 +60,7 @@ fn members_apart(shares: &[Share]) -> bool
     match shares {
         [] => true,
         [first, rest @ ..] => {
-            rest.iter().all(|other| other.is_other(*first)) && members_apart(rest)
+            rest.iter().all(|other| other.member != first.member) && members_apart(rest)
         }
     }
 }
@@ -84,7 +68,7 @@ fn members_apart(shares: &[Share]) -> bool
 fn values_within(greatest: u16, shares: &[Share]) -> bool
     ensures { Tells result (AllWithin greatest shares.now) }
 {
-    shares.iter().all(|share| share.is_within(greatest))
+    shares.iter().all(|share| share.value <= greatest)
 }
 
 // Whether the shares are well formed, or else what is first wrong with them.
