@@ -1,19 +1,12 @@
 -- One entry of a certificate after the other.
-use Rattle.std.proofs.Common.{◌≡◌, ℕ, zero, suc, ◌+◌, ◌-◌, ◌*◌, ◌<◌, ◌≤◌, Bool, true, false, ◌&&◌, eqb, List, ◌++◌, length, get_or, take, drop, Option, sym, refl, ap, ap₂, ◌∙◌, subst₂, suc-mul, arith}
+use Rattle.std.proofs.Common.{◌≡◌, ℕ, zero, suc, ◌+◌, ◌-◌, ◌*◌, ◌<◌, ◌≤◌, true, false, ◌&&◌, List, ◌++◌, length, get_or, Option, sym, ap, ap₂, ◌∙◌, subst₂, suc-mul, arith}
 use Rattle.std.proofs.lemmas.List.{length-append, take_at, drop_at, get_or_append_left}
+use Rattle.std.proofs.lemmas.Bool.{and_left, and_right}
 use Rattle.wire.specs.Entries.{entry_formed, entries_formed, are_entries}
-
-nor : (b : Bool) → false ≡ (b && false)
-nor true = refl
-nor false = refl
 
 whole : (m w : ℕ) → 1 + w ≤ m * (1 + w) → 0 < m
 whole zero w h = absurd (omega arith)
 whole (suc m) w h = omega arith
-
-none : (m w : ℕ) → m * (1 + w) < 1 + w → m ≡ 0
-none zero w h = refl
-none (suc m) w h = absurd (omega (arith, suc-mul m (1 + w)))
 
 module _ (n : ℕ) (limit : Option ℕ) (w count : ℕ) (bs : List ℕ) where
   -- the rest is what is left after k entries, and its form decides
@@ -39,9 +32,7 @@ module _ (n : ℕ) (limit : Option ℕ) (w count : ℕ) (bs : List ℕ) where
 
   -- an entry without the form
   pub stops : (k last : ℕ) (rest entry back : List ℕ) → Left k last rest → rest ≡ entry ++ back → length entry ≡ 1 + w → entry_formed n limit last entry ≡ false → false ≡ are_entries n limit w count bs
-  stops k last rest entry back l is long fails =
-      let all = (step k last rest entry back l is long).0 ∙ ap (λ b. b && entries_formed n limit w (count - (k + 1)) (get_or entry 0 0) back) fails in
-      nor (eqb (length bs) (count * (1 + w))) ∙ sym (ap (λ b. eqb (length bs) (count * (1 + w)) && b) all)
+  stops k last rest entry back l is long fails = sym (and_right _ _ ((step k last rest entry back l is long).0 ∙ and_left _ _ fails))
 
   -- an entry that has it
   pub goes_on : (k k' last signer : ℕ) (rest entry back : List ℕ) → Left k last rest → rest ≡ entry ++ back → length entry ≡ 1 + w → entry_formed n limit last entry ≡ true → k' ≡ k + 1 → signer ≡ get_or entry 0 0 → Left k' signer back
@@ -49,7 +40,3 @@ module _ (n : ℕ) (limit : Option ℕ) (w count : ℕ) (bs : List ℕ) where
       let s = step k last rest entry back l is long in
       let e : Left (k + 1) (get_or entry 0 0) back = record { long = s.1; decides = s.0 ∙ ap (λ b. b && entries_formed n limit w (count - (k + 1)) (get_or entry 0 0) back) holds } in
       subst₂ (λ j l. Left j l back) (sym one) (sym whose) e
-
-  -- no entry is left
-  pub ends : (k last : ℕ) (rest : List ℕ) → Left k last rest → length rest < 1 + w → entries_formed n limit w count 0 bs ≡ true
-  ends k last rest l short = l.decides ∙ ap (λ j. entries_formed n limit w j last rest) (none (count - k) w (omega (arith, l.long)))

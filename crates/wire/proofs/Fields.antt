@@ -1,12 +1,11 @@
 -- Fields, written one after another.
-use Rattle.std.proofs.Common.{◌≡◌, ℕ, ◌+◌, ◌<◌, ◌≤◌, Bool, true, false, List, [], ◌∷◌, ◌++◌, length, get_or, take, drop, Ok, Err, Result, Bor, sym, ap, ◌∙◌, arith}
+use Rattle.std.proofs.Common.{◌≡◌, ℕ, ◌+◌, ◌<◌, ◌≤◌, List, [], ◌++◌, length, get_or, take, Ok, Err, Bor, sym, ap, ◌∙◌}
 use Rattle.std.specs.List.{flat_map}
 use Rattle.std.proofs.lemmas.List.{take_more, flat_map_more}
 use Rattle.std.proofs.lemmas.List.Folds.{length-flat_map-take}
 use Rattle.std.proofs.lemmas.Bool.{le-leb, lt-leb}
 use Rattle.blocks.proofs.Overlays.{Wrote}
-use Rattle.wire.specs.declared.writer.TooShort.{TooShort}
-use Rattle.wire.specs.Writing.{has_room, writing, written}
+use Rattle.wire.specs.Writing.{writing, written}
 
 -- the bytes of the fields
 abbrev pub joined : List (Bor (List ℕ)) → List ℕ

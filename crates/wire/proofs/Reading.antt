@@ -1,5 +1,5 @@
 -- What has been read so far decides what is read.
-use Rattle.std.proofs.Common.{◌≡◌, ℕ, ◌+◌, ◌-◌, ◌≤◌, Bool, true, cond, List, length, get_or, take, drop, Some, None, Option, Ok, Err, Result, sym, refl, ap, ap₂, ◌∙◌, arith}
+use Rattle.std.proofs.Common.{◌≡◌, ℕ, ◌+◌, ◌-◌, ◌≤◌, true, List, length, get_or, take, drop, Some, None, Option, Result, sym, refl, ap, ap₂, ◌∙◌, arith}
 use Rattle.std.specs.List.{IsSplitAt}
 use Rattle.std.specs.Option.{option_map, ok_or}
 use Rattle.std.proofs.lemmas.List.{take_rest, drop-drop}

@@ -12,10 +12,7 @@ use blocks::statement::Statement;
 fn rank_in(bytes: &[u8]) -> Option<Rank>
     ensures { MatchOption result (length bytes.now < 43) (λ rank. (43 ≤ length bytes.now) × (rank ≡ rank_of (statement_of (take 43 bytes.now)))) }
 {
-    let (statement, _) = bytes.split_at_checked(STATEMENT_BYTES)?;
-    let [kind, _, _, v0, v1, v2, v3, r0, r1, r2, r3, ..] = statement else {
-        return None;
-    };
+    let [kind, _, _, v0, v1, v2, v3, r0, r1, r2, r3, ..] = bytes.first_chunk::<STATEMENT_BYTES>()?;
     Some(Rank {
         view: View(u32::from_be_bytes([*v0, *v1, *v2, *v3])),
         kind: Kind::try_from(*kind).unwrap_or(Kind::Fallback),

@@ -111,10 +111,10 @@ fn read_share<'a>(form: Form, bytes: &'a [u8]) -> Option<Message<'a>>
         return None;
     };
     let value = u16::from_be_bytes([*high, *low]);
-    if !is_member(form.members, member) || value > form.greatest {
-        return None;
-    }
-    if tag.len() != form.width as usize {
+    if !is_member(form.members, member)
+        || value > form.greatest
+        || tag.len() != form.width as usize
+    {
         return None;
     }
     Some(Message::Share(Share {
