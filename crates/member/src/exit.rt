@@ -7,7 +7,7 @@ use crate::rows::row_of;
 use crate::see::{place_of, seeing};
 use crate::state::*;
 use crate::types::Stage;
-use blocks::rank::{Round, View};
+use blocks::rank::View;
 use blocks::statement::Statement;
 use table::held::Held;
 
@@ -31,8 +31,8 @@ fn exit_phase(phase: &Phase, row: &Row) -> Phase
     requires { phase.now.view.0 < 1023 }
     ensures { result ≡ exit_phase phase.now row.now }
 {
-    let voted = if phase.stage.is_in_fallback() {
-        Round(phase.voted.0.max(row.round.0))
+    let voted = if phase.stage == Stage::InFallback {
+        phase.voted.max(row.round)
     } else {
         phase.voted
     };

@@ -59,7 +59,7 @@ impl Member {
         if !self.may_propose() {
             return Some(Refusal::OutOfStage);
         }
-        if next_round(self.plan().base.statement.round) > LAST_ROUND {
+        if next_round(self.plan().base.statement.round).0 > LAST_ROUND {
             return Some(Refusal::Ended);
         }
         None

@@ -1,27 +1,19 @@
 // Seeing a certificate.
-ghost use Rattle.std.specs.Prelude.{◌≡◌, ◌<◌, ◌≤◌, Bool, cond, [], length, None, slice_index_or, slice_set};
+ghost use Rattle.std.specs.Prelude.{◌≡◌, ◌<◌, ◌≤◌, [], length, None, slice_index_or, slice_set};
 ghost use Rattle.blocks.specs.Layout.{overlay};
 ghost use Rattle.member.specs.Exit.{place_of};
-ghost use Rattle.member.specs.See.{is_winner, unendorsed, higher_rank, see, seeing, newly};
+ghost use Rattle.member.specs.See.{unendorsed, see, seeing, newly};
 ghost use Rattle.member.specs.States.{winner_of};
 
-use crate::rows::raises;
 use crate::state::*;
-use crate::votes::{is_fallback, next_round};
+use crate::votes::next_round;
 use blocks::layout::put;
-use blocks::rank::{Rank, Round, View};
+use blocks::rank::{Kind, View};
 use blocks::statement::Statement;
 use table::committed::commit;
 use table::held::Held;
 use table::places::{block_at, find, parent_of};
 use wire::limits::CERTIFICATE_MOST;
-
-// The higher of two ranks.
-fn higher_rank(a: Rank, b: Rank) -> Rank
-    ensures { result ≡ higher_rank a b }
-{
-    if a.below(&b) { b } else { a }
-}
 
 // The chain with another last committed place, once the certificate of the block at a place is seen.
 fn seen_to(chain: &Chain, table: &[Held], statement: &Statement, place: usize, last: usize) -> Chain
@@ -31,14 +23,14 @@ fn seen_to(chain: &Chain, table: &[Held], statement: &Statement, place: usize, l
     ensures last { result.last ≡ last }
 {
     let parent = block_at(table, parent_of(table, place)).rank();
-    let high = if raises(&chain.high, statement) {
+    let high = if chain.high.rank() < statement.rank() {
         *statement
     } else {
         chain.high
     };
     Chain {
-        round: Round(chain.round.0.max(next_round(statement.round))),
-        lock: higher_rank(chain.lock, parent),
+        round: chain.round.max(next_round(statement.round)),
+        lock: parent.max(chain.lock),
         high,
         last,
     }
@@ -53,20 +45,15 @@ pub(crate) fn seeing(
 ) -> Option<Chain>
     ensures { result ≡ seeing chain.now table.now statement.now place }
 {
-    match commit(table, chain.last, place) {
-        Some(last) => Some(seen_to(chain, table, statement, place, last)),
-        None => None,
-    }
+    let last = commit(table, chain.last, place)?;
+    Some(seen_to(chain, table, statement, place, last))
 }
 
 // The place of the block that the statement is of; of genesis where it is not held.
 pub(crate) fn place_of(table: &[Held], held: usize, statement: &Statement) -> usize
     ensures { result ≡ place_of table.now held statement.now }
 {
-    match find(table, held, &statement.id) {
-        Some(place) => place,
-        None => 0,
-    }
+    find(table, held, &statement.id).unwrap_or(0)
 }
 
 // A certificate's bytes at the start of a place of the shelf.
@@ -83,8 +70,7 @@ pub(crate) fn shelve(shelf: &mut [[u8; CERTIFICATE_MOST]], place: usize, bytes: 
 fn winner_at(winners: &[Option<u8>; 1024], view: View) -> Option<u8>
     ensures { result ≡ slice_index_or winners.now view.0 None }
 {
-    let i = view.0 as usize;
-    if i < 1024 { winners[i] } else { None }
+    winners.get(view.0 as usize).copied().flatten()
 }
 
 impl Member {
@@ -99,13 +85,9 @@ impl Member {
     pub(crate) fn unendorsed(&self, statement: &Statement) -> bool
         ensures { result ≡ unendorsed self.now statement.now }
     {
-        if !is_fallback(statement.kind) || statement.view.0 >= self.phase.view.0 {
-            return false;
-        }
-        match self.winner_of(statement.view) {
-            Some(winner) => winner != statement.proposer,
-            None => true,
-        }
+        statement.kind == Kind::Fallback
+            && statement.view < self.phase.view
+            && self.winner_of(statement.view) != Some(statement.proposer)
     }
 }
 

@@ -82,7 +82,7 @@ impl Member {
         if !sized(&self.site, &lent) {
             return Err(Refusal::Sizes);
         }
-        if !self.phase.stage.is_steady() {
+        if self.phase.stage != Stage::Steady {
             return Err(Refusal::OutOfStage);
         }
         let words = timeout_words(self.phase.view);
