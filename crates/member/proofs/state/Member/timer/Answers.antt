@@ -1,14 +1,18 @@
-use Rattle.std.proofs.Common.{◌+◌, ◌*◌, ◌≤◌, sym, subst, arith, rules}
+use Rattle.std.proofs.Common.{◌≡◌, ◌+◌, ◌*◌, ◌≤◌, length, take, sym, ◌∙◌, subst, arith, rules}
 use Rattle.wire.specs.declared.form.Form.{Form}
+use Rattle.member.specs.Memories.{lengths_in}
 use Rattle.member.specs.Shelf.{certificate_length}
+use Rattle.member.specs.Sizes.{Sized}
 use Rattle.member.proofs.Rooms.{certificate_room, narrow_tags}
+use Rattle.member.proofs.Signed.{at_start}
+use Rattle.wire.specs.Layouts.{timeout_words}
 use Rattle.member.proofs.state.Member.timer.Goals as goal
 
 pub write_timeout-length-requires : goal.write_timeout-length-requires
 write_timeout-length-requires g c =
     let a = g.A.Attestor in
     let m = c.args.self.now in
-    let fits = c.sized.ensures.parts c.if-not-sized.false in
+    let fits : Sized m.site (lengths_in c.args.memory (length c.args.out.now)) = subst (Sized m.site) c.lengths.ensures (c.fit.ensures.parts c.if-not-fit.false) in
     let narrow = narrow_tags a.per_member a.fixed m.site.members a.laws.narrow fits.group in
     record {
       high = omega (arith, fits.shelves);
@@ -16,3 +20,10 @@ write_timeout-length-requires g c =
       tag = search rules;
       room = fits.outgoing;
     }
+
+pub returns : goal.returns
+returns g c =
+    let signed = c.in_ok-width.ensures in
+    let tag = at_start _ _ _ _ _ signed.long (g.A.Attestor.laws.tag_width c.args.attestor.now c.timeout_words-words.result) signed.written in
+    let m1 : c.timeout_words-words.result ≡ timeout_words c.args.self.now.phase.view = c.timeout_words-words.ensures in
+    search rules
