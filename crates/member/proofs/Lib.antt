@@ -2,5 +2,3 @@ pub mod Prepared
 pub mod Signed
 pub mod Rooms
 pub mod Planned
-pub mod Texts
-pub mod Sheets

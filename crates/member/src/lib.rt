@@ -14,7 +14,6 @@ pub mod sheet;
 pub mod shelf;
 pub mod sizes;
 pub mod state;
-pub(crate) mod text;
 pub mod timer;
 pub mod types;
 pub mod votes;
