@@ -41,7 +41,7 @@ impl Member {
         match certificate {
             Some(statement) => Base {
                 statement: *statement,
-                place: self.site.own as usize,
+                place: usize::from(self.site.own),
             },
             None => Base {
                 statement: self.chain.high,
@@ -76,7 +76,7 @@ impl Member {
             step: Proposed {
                 view: self.phase.view,
                 kind: Kind::Fallback,
-                step: height as u32,
+                step: u32::from(height),
             },
             height,
             base: self.fallback_base(certificate),
@@ -102,13 +102,17 @@ impl Member {
         requires { 0 < self.now.site.members }
         ensures { result ≡ in_turn self.now }
     {
-        if self.phase.stage == Stage::InFallback {
-            let row = row_of(&self.rows, self.site.own);
-            return recorded_height(&row.certificate) < 3;
+        match self.phase.stage {
+            Stage::Steady => {
+                self.leads(self.chain.round)
+                    && next_round(self.chain.high.round) == self.chain.round
+            }
+            Stage::TimedOut => false,
+            Stage::InFallback => {
+                let row = row_of(&self.rows, self.site.own);
+                recorded_height(&row.certificate) < 3
+            }
         }
-        self.phase.stage == Stage::Steady
-            && self.leads(self.chain.round)
-            && next_round(self.chain.high.round) == self.chain.round
     }
 
     // Whether the member is the leader of the round.

@@ -1,57 +1,50 @@
 // Setting up a member.
-ghost use Rattle.std.specs.Prelude.{◌≡◌, ◌<◌, length, is_ok, if◌then◌else◌};
+ghost use Rattle.std.specs.Prelude.{◌≡◌, length, is_ok, if◌then◌else◌};
 ghost use Rattle.member.specs.Memories.{lengths_in_mut, SameParts};
 ghost use Rattle.member.specs.SetUp.{fresh, emptied, prepared_table, prepared_shelf, set_up};
 
 use crate::memory::MemoryMut;
+use crate::shelf::shelve;
 use crate::state::*;
 use crate::types::{Refusal, Stage};
-use blocks::layout::put;
 use blocks::rank::{Kind, Round, View};
 use blocks::statement::Statement;
 use table::held::Held;
 use tally::clear;
-use wire::limits::CERTIFICATE_MOST;
 
-// A member that has seen nothing but genesis.
-fn fresh(site: Site) -> Member
-    ensures { result ≡ fresh site }
-{
-    let high = Statement::genesis();
-    Member {
-        site,
-        held: 1,
-        chain: Chain {
-            round: Round(1),
-            lock: high.rank(),
-            high,
-            last: 0,
-        },
-        phase: Phase {
-            view: View(0),
-            stage: Stage::Steady,
-            voted: Round(0),
-        },
-        proposed: Proposed {
-            view: View(0),
-            kind: Kind::Regular,
-            step: 0,
-        },
-        winners: [None; 1024],
-        rows: [Row::empty(); 13],
-    }
-}
-
-// Genesis' certificate, 44 zero bytes, at place 0 of the shelf.
-fn shelve_genesis(shelf: &mut [[u8; CERTIFICATE_MOST]])
-    requires { 0 < length shelf.old }
-    ensures { shelf.new ≡ prepared_shelf shelf.old }
-{
-    let high = &mut shelf[0];
-    put(high, 0, &[0; 44]);
-}
+// Genesis' certificate.
+const GENESIS_CERTIFICATE: [u8; 44] = [0; 44];
 
 impl Member {
+    // A member that has seen nothing but genesis.
+    fn fresh(site: Site) -> Member
+        ensures { result ≡ fresh site }
+    {
+        let high = Statement::genesis();
+        Member {
+            site,
+            held: 1,
+            chain: Chain {
+                round: Round(1),
+                lock: high.rank(),
+                high,
+                last: 0,
+            },
+            phase: Phase {
+                view: View(0),
+                stage: Stage::Steady,
+                voted: Round(0),
+            },
+            proposed: Proposed {
+                view: View(0),
+                kind: Kind::Regular,
+                step: 0,
+            },
+            winners: [None; 1024],
+            rows: [Row::empty(); 13],
+        }
+    }
+
     // A fresh member: the own number of n, and the memory that every later call is lent. It empties the tallies, holds genesis
     // at place 0 of the table and puts its certificate at place 0 of the shelf; all else stays.
     pub fn set_up(
@@ -83,7 +76,7 @@ impl Member {
         clear(memory.finished);
         clear(memory.shares);
         memory.table[0] = Held::genesis();
-        shelve_genesis(memory.shelf);
-        Ok(fresh(site))
+        shelve(memory.shelf, 0, &GENESIS_CERTIFICATE);
+        Ok(Member::fresh(site))
     }
 }

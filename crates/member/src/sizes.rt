@@ -44,7 +44,7 @@ impl Lengths {
     fn buffers_fit(&self, n: u8) -> bool
         ensures { result ≡ buffers_fit n self.now }
     {
-        self.shelf == n as usize + 1 && self.out == OUTGOING_BYTES
+        self.shelf == usize::from(n) + 1 && self.out == OUTGOING_BYTES
     }
 
     // Whether n, the own number and what is lent are within their limits, and the table as long as at set up.
@@ -55,7 +55,7 @@ impl Lengths {
         let n = site.members;
         group_size(n)
             && (0 < site.own && site.own <= n)
-            && self.tallies_fit(n as usize)
+            && self.tallies_fit(usize::from(n))
             && (table_size(self.table) && self.table == site.places)
             && self.buffers_fit(n)
     }

@@ -98,6 +98,6 @@ impl From<WillNotSign> for Refusal {
     ghost from_gives = { λ _ refusal. refusal ≡ Unsigned };
 
     fn from(_: WillNotSign) -> Refusal {
-        Refusal::Unsigned
+        Self::Unsigned
     }
 }

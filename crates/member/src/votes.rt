@@ -16,11 +16,13 @@ pub(crate) fn next_round(round: Round) -> Round
     Round(round.0.saturating_add(1))
 }
 
-// Whether a parent of this rank does not lie below the lock.
-fn respects_lock(chain: &Chain, parent: &Rank) -> bool
-    ensures { result ≡ respects_lock chain.now parent.now }
-{
-    !parent.below(&chain.lock)
+impl Chain {
+    // Whether a parent of this rank does not lie below the lock.
+    fn respects_lock(&self, parent: &Rank) -> bool
+        ensures { result ≡ respects_lock self.now parent.now }
+    {
+        *parent >= self.lock
+    }
 }
 
 fn votes_regular(phase: &Phase, chain: &Chain, head: &Head, parent: &Rank) -> bool
@@ -30,20 +32,21 @@ fn votes_regular(phase: &Phase, chain: &Chain, head: &Head, parent: &Rank) -> bo
         && head.view == phase.view
         && head.round == chain.round
         && phase.voted < head.round
-        && respects_lock(chain, parent)
+        && chain.respects_lock(parent)
 }
 
 fn votes_fallback(phase: &Phase, chain: &Chain, row: &Row, head: &Head, parent: &Rank) -> bool
     ensures { result ≡ votes_fallback phase.now chain.now row.now head.now parent.now }
 {
-    if phase.stage != Stage::InFallback || head.view != phase.view || head.height <= row.height {
-        return false;
-    }
-    if head.height == 1 {
-        respects_lock(chain, parent)
+    let on_chain = if head.height == 1 {
+        chain.respects_lock(parent)
     } else {
         row.round < head.round
-    }
+    };
+    phase.stage == Stage::InFallback
+        && head.view == phase.view
+        && row.height < head.height
+        && on_chain
 }
 
 // Whether the member votes for a block whose parent has this rank.

@@ -25,5 +25,5 @@ pub returns : goal.returns
 returns g c =
     let signed = c.in_ok-width.ensures in
     let tag = at_start _ _ _ _ _ signed.long (g.A.Attestor.laws.tag_width c.args.attestor.now c.timeout_words-words.result) signed.written in
-    let m1 : c.timeout_words-words.result ≡ timeout_words c.args.self.now.phase.view = c.timeout_words-words.ensures in
+
     search rules
