@@ -48,7 +48,7 @@ impl Row {
 pub(crate) fn row_of(rows: &[Row; 13], member: u8) -> Row
     ensures { result ≡ row_of rows.now member }
 {
-    let i = member.saturating_sub(1) as usize;
+    let i = usize::from(member.saturating_sub(1));
     rows.get(i).copied().unwrap_or(Row::empty())
 }
 
@@ -63,7 +63,7 @@ pub(crate) fn records(rows: &[Row; 13], statement: &Statement) -> bool
 pub(crate) fn record_in(rows: &mut [Row; 13], statement: &Statement)
     ensures { rows.new ≡ record_rows rows.old statement.now }
 {
-    let i = statement.proposer.saturating_sub(1) as usize;
+    let i = usize::from(statement.proposer.saturating_sub(1));
     if i < 13 && rows[i].takes(statement) {
         rows[i].record(statement);
     }

@@ -44,6 +44,7 @@ fn push_number<I: Integer, const N: usize>(text: &mut ArrayString<N>, n: I)
 }
 
 // A rank's view, kind and round.
+#[tactic(auto, using(std::proofs::lemmas::List::append_assoc), unfolding(crate::specs::Sheet::rank_text))]
 fn rank_text(rank: Rank) -> ArrayString<RANK_BYTES>
     ensures { result.bytes ≡ rank_text rank }
 {
@@ -57,6 +58,7 @@ fn rank_text(rank: Rank) -> ArrayString<RANK_BYTES>
 }
 
 // Adds a line `key=value`.
+#[tactic(auto, using(std::proofs::lemmas::List::append_assoc), unfolding(crate::specs::Sheet::line))]
 fn push_line(text: &mut Text, key: &str, value: &str)
     requires { array_string_len text.old + length key.now + length value.now + 2 ≤ 256 }
     ensures bytes { text.new.bytes ≡ text.old.bytes ++ line key.now value.now }
@@ -79,6 +81,7 @@ fn number_line<I: Integer>(text: &mut Text, key: &str, n: I)
 
 impl Member {
     // The ten lines.
+    #[tactic(auto, using(std::proofs::lemmas::List::append_assoc), unfolding(crate::specs::Sheet::sheet_text))]
     fn lines(&self, table: &[Held]) -> Text
         ensures { result.bytes ≡ sheet_text self.now table.now }
     {
