@@ -101,6 +101,7 @@ impl Member {
     }
 
     // Writes the planned proposal: its length.
+    #[tactic(auto, using(crate::proofs::Planned::planned_message))]
     fn write_planned(
         &self,
         form: Form,

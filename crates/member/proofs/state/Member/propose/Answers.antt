@@ -7,20 +7,18 @@ use Rattle.member.specs.Rules.{first_broken}
 use Rattle.member.specs.Shelf.{certificate_length}
 use Rattle.member.specs.Sizes.{Sized}
 use Rattle.member.proofs.Planned.{planned_place, propose_leaves}
-use Rattle.member.proofs.Rooms.{certificate_room, narrow_tags}
+use Rattle.member.proofs.Rooms.{certificate_fits}
 use Rattle.member.proofs.state.Member.propose.Goals as goal
 
 pub write_planned-length-requires : goal.write_planned-length-requires
 write_planned-length-requires g c =
-    let a = g.A.Attestor in
     let m = c.args.self.now in
     let allowed = c.in_ok-judge_proposal.ensures in
     let fits : Sized m.site (lengths_in c.args.memory (length c.args.out.now)) = subst (Sized m.site) c.lengths.ensures allowed.parts in
-    let narrow = narrow_tags a.per_member a.fixed m.site.members a.laws.narrow fits.group in
     record {
       turn = allowed.turn;
       place = omega (arith, planned_place m, fits.among, fits.shelves);
-      within = subst (λ (f : Form). certificate_length f (planned m).base.statement ≤ 1925) (sym c.of-form.ensures) (certificate_room m.site.members (a.per_member * m.site.members + a.fixed) (planned m).base.statement fits.group narrow);
+      within = certificate_fits g.A.Attestor m.site.members c.of-form.result (planned m).base.statement c.of-form.ensures fits.group;
       payload = allowed.short;
       room = fits.outgoing;
     }
