@@ -5,6 +5,7 @@ use crate::sample::{LOT, MEMBERS};
 use attest::book::Book;
 use attest::entry::Entry;
 use attest::group::GroupSize;
+use member::memory::MemoryMut;
 use member::state::Member;
 use member::types::{Answer, Refusal};
 use std::alloc::Global;
@@ -35,28 +36,24 @@ fn write_member(text: &mut String, book: &mut Book<'_>, own: u8) -> Result<(), F
     let mut table = [GENESIS; 8];
     let mut shelf = [[0; CERTIFICATE_MOST]; 5];
     let mut out = [0; OUTGOING_BYTES];
-    let Ok(mut member) = Member::set_up(
-        own,
-        MEMBERS,
-        &mut votes,
-        &mut timeouts,
-        &mut finished,
-        &mut shares,
-        &mut table,
-        &mut shelf,
-        &out,
-    ) else {
+    let mut memory = MemoryMut {
+        votes: &mut votes,
+        timeouts: &mut timeouts,
+        finished: &mut finished,
+        shares: &mut shares,
+        table: &mut table,
+        shelf: &mut shelf,
+    };
+    let Ok(mut member) = Member::set_up(own, MEMBERS, &mut memory, &out) else {
         return Err(Fault::Step);
     };
-    write_sheet(text, &member, &table)?;
+    write_sheet(text, &member, memory.table)?;
     if book.hand_to(own).is_err() {
         return Err(Fault::Step);
     }
     if own == 1 {
         let payload = LOT.payload();
-        let answer = member.propose(
-            book, &votes, &timeouts, &finished, &shares, &table, &shelf, &payload, &mut out,
-        );
+        let answer = member.propose(book, memory.shared(), &payload, &mut out);
         write_answer(
             text,
             "is the leader of round 1 and proposes a lot",
@@ -65,11 +62,9 @@ fn write_member(text: &mut String, book: &mut Book<'_>, own: u8) -> Result<(), F
         )?;
     }
     if own == 3 {
-        let answer = member.timer(
-            book, &votes, &timeouts, &finished, &shares, &table, &shelf, &mut out,
-        );
+        let answer = member.timer(book, memory.shared(), &mut out);
         write_answer(text, "has waited long enough and times out", answer, &out)?;
-        write_sheet(text, &member, &table)?;
+        write_sheet(text, &member, memory.table)?;
     }
     Ok(())
 }
@@ -104,7 +99,7 @@ fn write_answer(
             writeln!(text, "    {}", Hex(&out[0..length]))?;
         }
         Err(refusal) => {
-            writeln!(text, "    it {what}: refused with {}", refusal.number())?;
+            writeln!(text, "    it {what}: refused with {}", u8::from(refusal))?;
         }
     }
     Ok(())
