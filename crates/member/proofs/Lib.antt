@@ -1,6 +1,4 @@
 pub mod Prepared
+pub mod Signed
 pub mod Rooms
-pub mod Laid
 pub mod Planned
-pub mod Texts
-pub mod Sheets

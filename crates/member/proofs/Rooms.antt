@@ -1,9 +1,13 @@
 -- Every certificate of a group has room in a place of the shelf, and every message in the outgoing buffer.
 use Rattle.std.proofs.Common.{◌≡◌, ℕ, ◌+◌, ◌*◌, ◌≤◌, max, Bool, true, false, cond, ◌||◌, eqb, sym, subst, ⊎_elim, mul-le-mul, arith}
 use Rattle.std.proofs.lemmas.Bool.{eqb-true, or_cases}
+use Rattle.attest.specs.declared.attestor.Attestor.{Ghosts}
 use Rattle.blocks.specs.declared.statement.Statement.{Statement}
 use Rattle.wire.specs.Certificates.{count_for}
+use Rattle.wire.specs.declared.form.Form.{Form}
+use Rattle.wire.specs.Forms.{form_of}
 use Rattle.wire.specs.Quorums.{quorum}
+use Rattle.member.specs.Shelf.{certificate_length}
 use Rattle.member.specs.Sizes.{group_size}
 
 -- a group has 4, 7, 10 or 13 members: what holds of these holds of each
@@ -21,7 +25,7 @@ count_most n true = omega arith
 count_most n false = omega arith
 
 -- a certificate has at most 1,925 bytes
-pub certificate_room : (n w : ℕ) (s : Statement) → group_size n ≡ true → w ≤ 16 * max 4 n → 44 + count_for n s * (1 + w) ≤ 1925
+certificate_room : (n w : ℕ) (s : Statement) → group_size n ≡ true → w ≤ 16 * max 4 n → 44 + count_for n s * (1 + w) ≤ 1925
 certificate_room n w s size narrow =
     let most : count_for n s * (1 + w) ≤ quorum n * (1 + w) = mul-le-mul (count_most n (eqb s.proposer 0)) (omega arith) in
     let each : quorum n * (1 + w) ≤ 1881 =
@@ -29,7 +33,13 @@ certificate_room n w s size narrow =
     omega arith
 
 -- the tags of a group's attestor
-pub narrow_tags : (per fixed n : ℕ) → ((k : ℕ) → 4 ≤ k → per * k + fixed ≤ 16 * k) → group_size n ≡ true → per * n + fixed ≤ 16 * max 4 n
+narrow_tags : (per fixed n : ℕ) → ((k : ℕ) → 4 ≤ k → per * k + fixed ≤ 16 * k) → group_size n ≡ true → per * n + fixed ≤ 16 * max 4 n
 narrow_tags per fixed n narrow size =
     let four : 4 ≤ n = at_each_size (λ k. 4 ≤ k) n size (omega arith) (omega arith) (omega arith) (omega arith) in
     omega (arith, narrow n four)
+
+-- so a certificate that is read or written against a group's form has room
+pub certificate_fits : {S : Type 0} (a : Ghosts S) (n : ℕ) (f : Form) (s : Statement) → f ≡ form_of a n 0 → group_size n ≡ true → certificate_length f s ≤ 1925
+certificate_fits a n f s is size =
+    subst (λ (k : Form). certificate_length k s ≤ 1925) (sym is)
+    (certificate_room n (a.per_member * n + a.fixed) s size (narrow_tags a.per_member a.fixed n a.laws.narrow size))

@@ -1,5 +1,6 @@
 pub mod Words
 pub mod States
+pub mod Memories
 pub mod Rules
 pub mod Sizes
 pub mod See

@@ -1,5 +1,5 @@
 -- The text sheet: ten lines of a key and its value.
-use Rattle.std.specs.Prelude.{◌≡◌, ℕ, ◌+◌, ◌≤◌, Bool, cond, ◌&&◌, List, ◌++◌, length, take, Ok, Err, codes, decimal, Result, ◌==◌}
+use Rattle.std.specs.Prelude.{ℕ, Bool, cond, ◌&&◌, List, ◌++◌, length, Ok, Err, codes, decimal, Result, ◌==◌}
 use Rattle.blocks.specs.declared.rank.Rank.{Rank}
 use Rattle.blocks.specs.Layout.{overlay}
 use Rattle.blocks.specs.Ranks.{kind_number}
@@ -7,7 +7,6 @@ use Rattle.blocks.specs.Statements.{rank_of}
 use Rattle.table.specs.declared.held.Held.{Held}
 use Rattle.table.specs.Committed.{committed_count}
 use Rattle.member.specs.declared.state.Member.{Member}
-use Rattle.member.specs.declared.text.Text.{Text}
 use Rattle.member.specs.declared.types.Refusal.{Refusal}
 use Rattle.member.specs.declared.types.Refusal.TheVariants.{Sizes}
 use Rattle.member.specs.declared.types.Stage.{Stage}
@@ -55,16 +54,3 @@ sheet m table out = cond (sheet_fits m table out) (Ok (length (sheet_text m tabl
 -- the buffer that it leaves: the text at its start, all else as it was
 abbrev pub sheet_out : Member → List Held → List ℕ → List ℕ
 sheet_out m table out = cond (sheet_fits m table out) (overlay out (sheet_text m table)) out
-
--- what a text holds so far
-abbrev pub written : Text → List ℕ
-written t = take t.end t.bytes
-
--- the text after is the one before and the part
-pub record Longer (before : Text) (part : List ℕ) (after : Text) : Type 0 where
-  pub text : written after ≡ written before ++ part
-  pub end : after.end ≡ before.end + length part
-
--- the part is added where it has room
-abbrev pub Adds : Text → List ℕ → Text → Type 0
-Adds before part after = before.end + length part ≤ sheet_bytes → Longer before part after

@@ -16,9 +16,6 @@ impl Member {
         if table.len() != self.site.places {
             return Err(Refusal::Sizes);
         }
-        match entry(table, self.chain.last, number) {
-            Some(place) => Ok(Some(*block_at(table, place))),
-            None => Ok(None),
-        }
+        Ok(entry(table, self.chain.last, number).map(|place| *block_at(table, place)))
     }
 }

@@ -1,45 +1,49 @@
 // Entering a view's fallback, and leaving the view by its coin.
-ghost use Rattle.std.specs.Prelude.{◌≡◌, ◌<◌, Bool};
+ghost use Rattle.std.specs.Prelude.{◌≡◌, ◌<◌};
 ghost use Rattle.member.specs.Exit.{entered, exit_phase, exit_seeing, exit_to};
 ghost use Rattle.member.specs.States.{with_phase};
 
 use crate::rows::row_of;
-use crate::see::{place_of, seeing};
+use crate::see::place_of;
 use crate::state::*;
 use crate::types::Stage;
-use blocks::rank::{Round, View};
+use blocks::rank::View;
 use blocks::statement::Statement;
 use table::held::Held;
 
-// The chain at exit, once the certificate that the winner's row held is seen; none is a fork.
-pub(crate) fn exit_seeing(
-    chain: &Chain,
-    table: &[Held],
-    held: usize,
-    certificate: &Option<Statement>,
-) -> Option<Chain>
-    ensures { result ≡ exit_seeing chain.now table.now held certificate.now }
-{
-    match certificate {
-        Some(statement) => seeing(chain, table, statement, place_of(table, held, statement)),
-        None => Some(*chain),
+impl Chain {
+    // The chain at exit, once the certificate that the winner's row held is seen; none is a fork.
+    pub(crate) fn exit_seeing(
+        &self,
+        table: &[Held],
+        held: usize,
+        certificate: &Option<Statement>,
+    ) -> Option<Chain>
+        ensures { result ≡ exit_seeing self.now table.now held certificate.now }
+    {
+        match certificate {
+            Some(statement) => self.seeing(table, statement, place_of(table, held, statement)),
+            None => Some(*self),
+        }
     }
 }
 
-// The phase after an exit by the winner of this row.
-fn exit_phase(phase: &Phase, row: &Row) -> Phase
-    requires { phase.now.view.0 < 1023 }
-    ensures { result ≡ exit_phase phase.now row.now }
-{
-    let voted = if phase.stage.is_in_fallback() {
-        Round(phase.voted.0.max(row.round.0))
-    } else {
-        phase.voted
-    };
-    Phase {
-        view: View(phase.view.0 + 1),
-        stage: Stage::Steady,
-        voted,
+impl Phase {
+    // The phase after an exit by the winner of this row.
+    fn exit(&self, row: &Row) -> Phase
+        requires { self.now.view.0 < 1023 }
+        ensures { result ≡ exit_phase self.now row.now }
+    {
+        let voted = if self.stage == Stage::InFallback {
+            self.voted.max(row.round)
+        } else {
+            self.voted
+        };
+        Phase {
+            view: View(self.view.0 + 1),
+            stage: Stage::Steady,
+            voted,
+        }
     }
 }
 
@@ -57,10 +61,8 @@ impl Member {
         ensures { self.new ≡ exit_to self.old chain winner }
     {
         let row = row_of(&self.rows, winner);
-        let view = self.phase.view.0 as usize;
-        let phase = exit_phase(&self.phase, &row);
-        self.winners[view] = Some(winner);
-        self.phase = phase;
+        self.winners[self.phase.view.0 as usize] = Some(winner);
+        self.phase = self.phase.exit(&row);
         self.chain = chain;
         self.rows = [Row::empty(); 13];
     }

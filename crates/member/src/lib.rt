@@ -3,6 +3,7 @@
 
 pub mod entry;
 pub mod exit;
+pub mod memory;
 pub mod plan;
 pub mod propose;
 pub mod rows;
@@ -11,10 +12,8 @@ pub mod send;
 pub mod set_up;
 pub mod sheet;
 pub mod shelf;
-pub mod sign;
 pub mod sizes;
 pub mod state;
-pub(crate) mod text;
 pub mod timer;
 pub mod types;
 pub mod votes;

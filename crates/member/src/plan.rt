@@ -1,10 +1,11 @@
 // What a member would propose, and whether it may.
-ghost use Rattle.std.specs.Prelude.{◌≡◌, ◌<◌, Bool, true, ◌==◌};
+ghost use Rattle.std.specs.Prelude.{◌≡◌, ◌<◌, true, ◌==◌};
 ghost use Rattle.blocks.specs.Ranks.{leader};
-ghost use Rattle.member.specs.Propose.{less_proposed, recorded_height, fallback_base, regular_plan, fallback_plan, planned, in_turn, may_propose, head_on};
+ghost use Rattle.member.specs.Propose.{recorded_height, fallback_base, regular_plan, fallback_plan, planned, in_turn, may_propose, head_on};
 
 use crate::rows::row_of;
 use crate::state::*;
+use crate::types::Stage;
 use crate::votes::next_round;
 use blocks::head::Head;
 use blocks::rank::{Kind, Round, leader};
@@ -25,24 +26,11 @@ pub struct Plan {
     pub base: Base,
 }
 
-// Whether the first was to be proposed before the second: by view, then kind, then round or height.
-fn less_proposed(a: &Proposed, b: &Proposed) -> bool
-    ensures { result ≡ less_proposed a.now b.now }
-{
-    a.view.0 < b.view.0
-        || (a.view.0 == b.view.0
-            && (a.kind.byte() < b.kind.byte()
-                || (a.kind.byte() == b.kind.byte() && a.step < b.step)))
-}
-
 // The height of a recorded certificate, 0 where there is none.
 fn recorded_height(certificate: &Option<Statement>) -> u8
     ensures { result ≡ recorded_height certificate.now }
 {
-    match certificate {
-        Some(statement) => statement.height,
-        None => 0,
-    }
+    certificate.map_or(0, |statement| statement.height)
 }
 
 impl Member {
@@ -53,7 +41,7 @@ impl Member {
         match certificate {
             Some(statement) => Base {
                 statement: *statement,
-                place: self.site.own as usize,
+                place: usize::from(self.site.own),
             },
             None => Base {
                 statement: self.chain.high,
@@ -61,9 +49,7 @@ impl Member {
             },
         }
     }
-}
 
-impl Member {
     fn regular_plan(&self) -> Plan
         ensures { result ≡ regular_plan self.now }
     {
@@ -90,7 +76,7 @@ impl Member {
             step: Proposed {
                 view: self.phase.view,
                 kind: Kind::Fallback,
-                step: height as u32,
+                step: u32::from(height),
             },
             height,
             base: self.fallback_base(certificate),
@@ -102,7 +88,7 @@ impl Member {
         requires { in_turn self.now ≡ true }
         ensures { result ≡ planned self.now }
     {
-        if self.phase.stage.is_in_fallback() {
+        if self.phase.stage == Stage::InFallback {
             let row = row_of(&self.rows, self.site.own);
             self.fallback_plan(&row.certificate)
         } else {
@@ -116,13 +102,17 @@ impl Member {
         requires { 0 < self.now.site.members }
         ensures { result ≡ in_turn self.now }
     {
-        if self.phase.stage.is_in_fallback() {
-            let row = row_of(&self.rows, self.site.own);
-            return recorded_height(&row.certificate) < 3;
+        match self.phase.stage {
+            Stage::Steady => {
+                self.leads(self.chain.round)
+                    && next_round(self.chain.high.round) == self.chain.round
+            }
+            Stage::TimedOut => false,
+            Stage::InFallback => {
+                let row = row_of(&self.rows, self.site.own);
+                recorded_height(&row.certificate) < 3
+            }
         }
-        self.phase.stage.is_steady()
-            && self.leads(self.chain.round)
-            && next_round(self.chain.high.round) == self.chain.round.0
     }
 
     // Whether the member is the leader of the round.
@@ -130,10 +120,7 @@ impl Member {
         requires { 0 < self.now.site.members }
         ensures { result ≡ (leader self.now.site.members round.0 == self.now.site.own) }
     {
-        match leader(self.site.members, round) {
-            Some(member) => member == self.site.own,
-            None => false,
-        }
+        leader(self.site.members, round) == Some(self.site.own)
     }
 
     // Whether the member may propose: in turn, and not proposed before.
@@ -141,7 +128,7 @@ impl Member {
         requires { 0 < self.now.site.members }
         ensures { result ≡ may_propose self.now }
     {
-        self.in_turn() && less_proposed(&self.proposed, &self.plan().step)
+        self.in_turn() && self.proposed < self.plan().step
     }
 
     // The head of the planned block, with a payload of this length.
@@ -153,7 +140,7 @@ impl Member {
             height: plan.height,
             proposer: self.site.own,
             view: self.phase.view,
-            round: Round(next_round(plan.base.statement.round)),
+            round: next_round(plan.base.statement.round),
             parent: plan.base.statement.id,
             payload,
         }

@@ -1,27 +1,28 @@
 // Proposing a block.
-ghost use Rattle.std.specs.Prelude.{◌≡◌, ◌+◌, ◌<◌, ◌≤◌, true, ◌++◌, length, take, None};
+ghost use Rattle.std.specs.Prelude.{◌≡◌, ◌<◌, ◌≤◌, true, ◌++◌, length, OnOk};
+ghost use Rattle.std.specs.Result.{result_err};
 ghost use Rattle.blocks.specs.Heads.{head_bytes};
 ghost use Rattle.blocks.specs.Layout.{overlay};
 ghost use Rattle.wire.specs.Forms.{form_of};
 ghost use Rattle.member.specs.Calls.{Leaves};
+ghost use Rattle.member.specs.Memories.{lent};
 ghost use Rattle.member.specs.Propose.{in_turn, planned, propose, propose_rules, proposal_message, proposal_bytes};
 ghost use Rattle.member.specs.Rules.{first_broken};
 ghost use Rattle.member.specs.Shelf.{certificate_length};
 ghost use Rattle.member.specs.Sizes.{Sized};
 
+use crate::memory::Memory;
 use crate::send::send;
 use crate::shelf::shelved;
-use crate::sizes::{Lengths, sized};
+use crate::sizes::Lengths;
 use crate::state::Member;
 use crate::types::*;
 use crate::votes::next_round;
+use arrayvec::ArrayVec;
 use attest::attestor::Attestor;
 use blocks::head::Head;
-use blocks::layout::put;
 use blocks::limits::{HEAD_BYTES, LAST_ROUND, PAYLOAD_MOST};
 use blocks::statement::Statement;
-use collect::items::*;
-use table::held::Held;
 use wire::certificate::Certificate;
 use wire::form::Form;
 use wire::limits::CERTIFICATE_MOST;
@@ -31,48 +32,15 @@ use wire::parts::Part;
 // The bytes of the largest block.
 const BLOCK_MOST: usize = HEAD_BYTES + PAYLOAD_MOST;
 
-// The block's bytes, head and payload, at the start of a room.
-fn block_bytes(head: &Head, payload: &[u8]) -> [u8; BLOCK_MOST]
+// The block's bytes, head and payload.
+fn block_bytes(head: &Head, payload: &[u8]) -> ArrayVec<u8, BLOCK_MOST>
     requires { length payload.now ≤ 192 }
-    ensures { take (45 + length payload.now) result ≡ head_bytes head.now ++ payload.now }
+    ensures { result.items ≡ head_bytes head.now ++ payload.now }
 {
-    let mut room = [0; BLOCK_MOST];
-    let at = put(&mut room, 0, &head.bytes());
-    put(&mut room, at, payload);
-    room
-}
-
-impl Member {
-    // Why a payload of this length may not be proposed, if so: the first rule that is broken.
-    fn propose_broken(&self, lent: &Lengths, payload: usize) -> Option<Refusal>
-        ensures answer { result ≡ first_broken (propose_rules self.now lent.now payload) }
-        ensures parts { result ≡ None → Sized self.now.site lent.now }
-        ensures short { result ≡ None → payload ≤ 192 }
-        ensures turn { result ≡ None → in_turn self.now ≡ true }
-    {
-        if !sized(&self.site, lent) {
-            return Some(Refusal::Sizes);
-        }
-        if payload > PAYLOAD_MOST {
-            return Some(Refusal::Form);
-        }
-        if !self.may_propose() {
-            return Some(Refusal::OutOfStage);
-        }
-        if next_round(self.plan().base.statement.round) > LAST_ROUND {
-            return Some(Refusal::Ended);
-        }
-        None
-    }
-}
-
-// The first n bytes.
-fn first(bytes: &[u8], n: usize) -> &[u8]
-    requires { n ≤ length bytes.now }
-    ensures bytes { result.now ≡ take n bytes.now }
-    ensures long { length result.now ≡ n }
-{
-    &bytes[0..n]
+    let mut block = ArrayVec::new();
+    block.try_extend_from_slice(&head.bytes()).unwrap();
+    block.try_extend_from_slice(payload).unwrap();
+    block
 }
 
 // Writes the proposal of a block with the certificate of its parent: its length.
@@ -110,7 +78,30 @@ fn write_proposal<'a>(
 }
 
 impl Member {
+    // Whether a payload of this length may be proposed: refused by the first rule that is broken.
+    fn judge_proposal(&self, lengths: &Lengths, payload: usize) -> Result<(), Refusal>
+        ensures answer { result_err result ≡ first_broken (propose_rules self.now lengths.now payload) }
+        ensures parts { OnOk result (Sized self.now.site lengths.now) }
+        ensures short { OnOk result (payload ≤ 192) }
+        ensures turn { OnOk result (in_turn self.now ≡ true) }
+    {
+        if !lengths.fit(&self.site) {
+            return Err(Refusal::Sizes);
+        }
+        if payload > PAYLOAD_MOST {
+            return Err(Refusal::Form);
+        }
+        if !self.may_propose() {
+            return Err(Refusal::OutOfStage);
+        }
+        if next_round(self.plan().base.statement.round).0 > LAST_ROUND {
+            return Err(Refusal::Ended);
+        }
+        Ok(())
+    }
+
     // Writes the planned proposal: its length.
+    #[tactic(auto, using(crate::proofs::Planned::planned_message))]
     fn write_planned(
         &self,
         form: Form,
@@ -128,47 +119,27 @@ impl Member {
     {
         let plan = self.plan();
         let head = self.head_on(&plan, payload.len() as u16);
-        let room = block_bytes(&head, payload);
+        let block = block_bytes(&head, payload);
         let parent = plan.base.statement;
         let certificate = shelved(form, shelf, plan.base.place, &parent);
-        let block = first(&room, HEAD_BYTES + payload.len());
-        write_proposal(form, head, block, parent, certificate, out)
+        write_proposal(form, head, block.as_slice(), parent, certificate, out)
     }
-}
 
-impl Member {
     // Proposes a block with the payload, to all: as the leader, in steady, on the highest certificate; in fallback the next
     // height of the own chain. Once each.
     pub fn propose<A: Attestor>(
         &mut self,
         attestor: &A,
-        votes: &[Option<KeptVote>],
-        timeouts: &[Option<KeptTimeout>],
-        finished: &[Option<Finished>],
-        shares: &[Option<KeptShare>],
-        table: &[Held],
-        shelf: &[[u8; CERTIFICATE_MOST]],
+        memory: Memory<'_>,
         payload: &[u8],
         out: &mut [u8],
     ) -> Result<Answer, Refusal>
-        ensures { Leaves (propose (form_of A.Attestor self.old.site.members 0) self.old (record { attestor = attestor.entry.now; tallies = record { votes = votes.entry.now; timeouts = timeouts.now; finished = finished.now; shares = shares.now }; table = table.now; shelf = shelf.now; out = out.old }) payload.now) result self.new attestor.entry.now out.new }
+        ensures { Leaves (propose (form_of A.Attestor self.old.site.members 0) self.old (lent attestor.entry.now memory.entry out.old) payload.now) result self.new attestor.entry.now out.new }
     {
-        let lent = Lengths {
-            votes: votes.len(),
-            timeouts: timeouts.len(),
-            finished: finished.len(),
-            shares: shares.len(),
-            table: table.len(),
-            shelf: shelf.len(),
-            out: out.len(),
-        };
-        if let Some(refusal) = self.propose_broken(&lent, payload.len()) {
-            return Err(refusal);
-        }
+        self.judge_proposal(&memory.lengths(out.len()), payload.len())?;
         let form = Form::of::<A>(self.site.members, 0);
-        let length = self.write_planned(form, shelf, payload, out);
-        let plan = self.plan();
-        self.proposed = plan.step;
+        let length = self.write_planned(form, memory.shelf, payload, out);
+        self.proposed = self.plan().step;
         Ok(Answer {
             to: Address::All,
             length,

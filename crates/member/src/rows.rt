@@ -1,7 +1,6 @@
 // What a member keeps of each proposer's fallback chain, and how it changes.
-ghost use Rattle.std.specs.Prelude.{◌≡◌, ◌<◌, ◌≤◌, Bool, List, length};
+ghost use Rattle.std.specs.Prelude.{◌≡◌};
 ghost use Rattle.member.specs.Record.{above_recorded, recorded, records, record_rows};
-ghost use Rattle.member.specs.See.{raises};
 ghost use Rattle.member.specs.States.{empty_row, row_of};
 ghost use Rattle.member.specs.Votes.{voted_row};
 
@@ -9,15 +8,6 @@ use crate::state::Row;
 use blocks::head::Head;
 use blocks::rank::Round;
 use blocks::statement::Statement;
-
-// Whether the new certificate ranks above the old one.
-pub(crate) fn raises(old: &Statement, new: &Statement) -> bool
-    ensures { result ≡ raises old.now new.now }
-{
-    let low = old.rank();
-    let high = new.rank();
-    low.below(&high)
-}
 
 impl Row {
     pub(crate) fn empty() -> Row
@@ -34,10 +24,8 @@ impl Row {
     pub(crate) fn takes(&self, statement: &Statement) -> bool
         ensures { result ≡ above_recorded self.now.certificate statement.now }
     {
-        match &self.certificate {
-            Some(old) => raises(old, statement),
-            None => true,
-        }
+        self.certificate
+            .is_none_or(|recorded| recorded.rank() < statement.rank())
     }
 
     // The certificate is recorded.
@@ -60,8 +48,8 @@ impl Row {
 pub(crate) fn row_of(rows: &[Row; 13], member: u8) -> Row
     ensures { result ≡ row_of rows.now member }
 {
-    let i = member.saturating_sub(1) as usize;
-    if i < 13 { rows[i] } else { Row::empty() }
+    let i = usize::from(member.saturating_sub(1));
+    rows.get(i).copied().unwrap_or(Row::empty())
 }
 
 // Whether the certificate ranks above the one in its proposer's row.
@@ -75,11 +63,8 @@ pub(crate) fn records(rows: &[Row; 13], statement: &Statement) -> bool
 pub(crate) fn record_in(rows: &mut [Row; 13], statement: &Statement)
     ensures { rows.new ≡ record_rows rows.old statement.now }
 {
-    let i = statement.proposer.saturating_sub(1) as usize;
-    if i >= 13 {
-        return;
-    }
-    if rows[i].takes(statement) {
+    let i = usize::from(statement.proposer.saturating_sub(1));
+    if i < 13 && rows[i].takes(statement) {
         rows[i].record(statement);
     }
 }

@@ -1,61 +1,59 @@
 // Seeing a certificate.
-ghost use Rattle.std.specs.Prelude.{◌≡◌, ◌<◌, ◌≤◌, Bool, cond, [], length, None, slice_index_or, slice_set};
-ghost use Rattle.blocks.specs.Layout.{overlay};
+ghost use Rattle.std.specs.Prelude.{◌≡◌};
 ghost use Rattle.member.specs.Exit.{place_of};
-ghost use Rattle.member.specs.See.{is_winner, unendorsed, higher_rank, see, seeing, newly};
+ghost use Rattle.member.specs.See.{unendorsed, see, seeing, newly};
 ghost use Rattle.member.specs.States.{winner_of};
 
-use crate::rows::raises;
 use crate::state::*;
-use crate::votes::{is_fallback, next_round};
-use blocks::layout::put;
-use blocks::rank::{Rank, Round, View};
+use crate::votes::next_round;
+use blocks::rank::{Kind, View};
 use blocks::statement::Statement;
 use table::committed::commit;
 use table::held::Held;
 use table::places::{block_at, find, parent_of};
-use wire::limits::CERTIFICATE_MOST;
 
-// The higher of two ranks.
-fn higher_rank(a: Rank, b: Rank) -> Rank
-    ensures { result ≡ higher_rank a b }
-{
-    if a.below(&b) { b } else { a }
-}
-
-// The chain with another last committed place, once the certificate of the block at a place is seen.
-fn seen_to(chain: &Chain, table: &[Held], statement: &Statement, place: usize, last: usize) -> Chain
-    ensures round { result.round ≡ (see chain.now table.now statement.now place).round }
-    ensures lock { result.lock ≡ (see chain.now table.now statement.now place).lock }
-    ensures high { result.high ≡ (see chain.now table.now statement.now place).high }
-    ensures last { result.last ≡ last }
-{
-    let parent = block_at(table, parent_of(table, place)).rank();
-    let high = if raises(&chain.high, statement) {
-        *statement
-    } else {
-        chain.high
-    };
-    Chain {
-        round: Round(chain.round.0.max(next_round(statement.round))),
-        lock: higher_rank(chain.lock, parent),
-        high,
-        last,
+impl Chain {
+    // The chain with another last committed place, once the certificate of the block at a place is seen.
+    fn seen_to(&self, table: &[Held], statement: &Statement, place: usize, last: usize) -> Chain
+        ensures round { result.round ≡ (see self.now table.now statement.now place).round }
+        ensures lock { result.lock ≡ (see self.now table.now statement.now place).lock }
+        ensures high { result.high ≡ (see self.now table.now statement.now place).high }
+        ensures last { result.last ≡ last }
+    {
+        let parent = block_at(table, parent_of(table, place)).rank();
+        let high = if self.high.rank() < statement.rank() {
+            *statement
+        } else {
+            self.high
+        };
+        Chain {
+            round: self.round.max(next_round(statement.round)),
+            lock: parent.max(self.lock),
+            high,
+            last,
+        }
     }
-}
 
-// The chain once the certificate of the block at a place is seen; none is a fork.
-pub(crate) fn seeing(
-    chain: &Chain,
-    table: &[Held],
-    statement: &Statement,
-    place: usize,
-) -> Option<Chain>
-    ensures { result ≡ seeing chain.now table.now statement.now place }
-{
-    match commit(table, chain.last, place) {
-        Some(last) => Some(seen_to(chain, table, statement, place, last)),
-        None => None,
+    // The chain once the certificate of the block at a place is seen; none is a fork.
+    pub(crate) fn seeing(
+        &self,
+        table: &[Held],
+        statement: &Statement,
+        place: usize,
+    ) -> Option<Chain>
+        ensures { result ≡ seeing self.now table.now statement.now place }
+    {
+        let last = commit(table, self.last, place)?;
+        Some(self.seen_to(table, statement, place, last))
+    }
+
+    // How many blocks the change to another chain commits.
+    pub(crate) fn newly(&self, table: &[Held], after: &Chain) -> u32
+        ensures { result ≡ newly table.now self.now after.now }
+    {
+        let was = block_at(table, self.last).head.round.0;
+        let is = block_at(table, after.last).head.round.0;
+        is.saturating_sub(was)
     }
 }
 
@@ -63,28 +61,7 @@ pub(crate) fn seeing(
 pub(crate) fn place_of(table: &[Held], held: usize, statement: &Statement) -> usize
     ensures { result ≡ place_of table.now held statement.now }
 {
-    match find(table, held, &statement.id) {
-        Some(place) => place,
-        None => 0,
-    }
-}
-
-// A certificate's bytes at the start of a place of the shelf.
-pub(crate) fn shelve(shelf: &mut [[u8; CERTIFICATE_MOST]], place: usize, bytes: &[u8])
-    requires place { place < length shelf.old }
-    requires room { length bytes.now ≤ 1925 }
-    ensures { shelf.new ≡ slice_set shelf.old place (overlay (slice_index_or shelf.old place []) bytes.now) }
-{
-    let certificate = &mut shelf[place];
-    put(certificate, 0, bytes);
-}
-
-// Who won a view, where it is noted.
-fn winner_at(winners: &[Option<u8>; 1024], view: View) -> Option<u8>
-    ensures { result ≡ slice_index_or winners.now view.0 None }
-{
-    let i = view.0 as usize;
-    if i < 1024 { winners[i] } else { None }
+    find(table, held, &statement.id).unwrap_or(0)
 }
 
 impl Member {
@@ -92,28 +69,15 @@ impl Member {
     pub(crate) fn winner_of(&self, view: View) -> Option<u8>
         ensures { result ≡ winner_of self.now view.0 }
     {
-        winner_at(&self.winners, view)
+        self.winners.get(view.0 as usize).copied().flatten()
     }
 
     // Whether a statement is of a past view's fallback and not of its winner's chain.
     pub(crate) fn unendorsed(&self, statement: &Statement) -> bool
         ensures { result ≡ unendorsed self.now statement.now }
     {
-        if !is_fallback(statement.kind) || statement.view.0 >= self.phase.view.0 {
-            return false;
-        }
-        match self.winner_of(statement.view) {
-            Some(winner) => winner != statement.proposer,
-            None => true,
-        }
+        statement.kind == Kind::Fallback
+            && statement.view < self.phase.view
+            && self.winner_of(statement.view) != Some(statement.proposer)
     }
-}
-
-// How many blocks a change of the last committed one commits.
-pub(crate) fn newly(table: &[Held], before: &Chain, after: &Chain) -> u32
-    ensures { result ≡ newly table.now before.now after.now }
-{
-    let was = block_at(table, before.last).head.round.0;
-    let is = block_at(table, after.last).head.round.0;
-    is.saturating_sub(was)
 }

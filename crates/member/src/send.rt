@@ -14,8 +14,5 @@ pub(crate) fn send(form: Form, message: &Message, out: &mut [u8]) -> usize
     ensures length { result ≡ length (message_bytes form (message_told message.now)) }
     ensures bytes { out.new ≡ overlay out.old (message_bytes form (message_told message.now)) }
 {
-    match write(form, message, out) {
-        Ok(length) => length,
-        Err(_) => unreachable(),
-    }
+    write(form, message, out).unwrap()
 }

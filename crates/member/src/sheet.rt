@@ -1,95 +1,102 @@
 // The text sheet: how a member stands, in ten lines.
-ghost use Rattle.std.specs.Prelude.{◌≡◌, ◌≤◌, length, IfOk, decimal};
-ghost use Rattle.member.specs.Sheet.{stage_word, rank_text, line, sheet_text, sheet, sheet_out, written, Adds};
+ghost use Rattle.std.specs.Prelude.{◌≡◌, ◌+◌, ◌≤◌, ◌++◌, length, IfOk};
+ghost use Rattle.arrayvec.specs.ArrayString.{array_string_len};
+ghost use Rattle.member.specs.Sheet.{stage_word, rank_text, line, sheet_text, sheet, sheet_out};
 
 use crate::state::Member;
-use crate::text::{TEXT_MOST, Text};
 use crate::types::{Refusal, Stage};
+use arrayvec::ArrayString;
 use blocks::layout::put;
 use blocks::rank::Rank;
+use itoa::{Buffer, Integer};
 use table::held::Held;
 use table::places::block_at;
 
+// The most bytes of a sheet.
+const SHEET_BYTES: usize = 256;
+
+// The most bytes of a rank there: two numbers of ten digits, one of three, and two commas.
+const RANK_BYTES: usize = 25;
+
 impl Stage {
-    pub(crate) fn word(self) -> &'static [u8]
-        ensures { result.now ≡ stage_word self }
+    fn word(self) -> &'static str
+        ensures word { result.now ≡ stage_word self }
+        ensures short { length result.now ≤ 8 }
     {
         match self {
-            Stage::Steady => b"steady",
-            Stage::TimedOut => b"timedout",
-            Stage::InFallback => b"fallback",
+            Stage::Steady => "steady",
+            Stage::TimedOut => "timedout",
+            Stage::InFallback => "fallback",
         }
     }
 }
 
-impl Text {
-    fn stage_line(&mut self, key: &[u8], stage: Stage)
-        ensures { Adds self.old (line key.now (stage_word stage)) self.new }
-    {
-        self.push(key);
-        self.push(b"=");
-        self.push(stage.word());
-        self.push(b"\n");
-    }
+// The text of a sheet.
+type Text = ArrayString<SHEET_BYTES>;
 
-    fn size_line(&mut self, key: &[u8], n: usize)
-        ensures adds { Adds self.old (line key.now (decimal n)) self.new }
-        ensures most { length (decimal n) ≤ 20 }
-    {
-        self.push(key);
-        self.push(b"=");
-        self.push_decimal(n);
-        self.push(b"\n");
-    }
+// Adds a number in decimal.
+fn push_number<I: Integer, const N: usize>(text: &mut ArrayString<N>, n: I)
+    requires { array_string_len text.old + I.MAX_STR_LEN ≤ N }
+    ensures bytes { text.new.bytes ≡ text.old.bytes ++ I.text n }
+    ensures within { array_string_len text.new ≤ array_string_len text.old + I.MAX_STR_LEN }
+{
+    text.push_str(Buffer::new().format(n));
+}
 
-    fn number_line(&mut self, key: &[u8], n: u32)
-        ensures adds { Adds self.old (line key.now (decimal n)) self.new }
-        ensures most { length (decimal n) ≤ 10 }
-    {
-        self.size_line(key, n as usize);
-    }
+// A rank's view, kind and round.
+#[tactic(auto, using(std::proofs::lemmas::List::append_assoc), unfolding(crate::specs::Sheet::rank_text))]
+fn rank_text(rank: Rank) -> ArrayString<RANK_BYTES>
+    ensures { result.bytes ≡ rank_text rank }
+{
+    let mut text = ArrayString::new();
+    push_number(&mut text, rank.view.0);
+    text.push(',');
+    push_number(&mut text, rank.kind.byte());
+    text.push(',');
+    push_number(&mut text, rank.round.0);
+    text
+}
 
-    fn push_rank(&mut self, rank: &Rank)
-        ensures adds { Adds self.old (rank_text rank.now) self.new }
-        ensures most { length (rank_text rank.now) ≤ 23 }
-    {
-        self.push_decimal(rank.view.0 as usize);
-        self.push(b",");
-        self.push_decimal(rank.kind.byte() as usize);
-        self.push(b",");
-        self.push_decimal(rank.round.0 as usize);
-    }
+// Adds a line `key=value`.
+#[tactic(auto, using(std::proofs::lemmas::List::append_assoc), unfolding(crate::specs::Sheet::line))]
+fn push_line(text: &mut Text, key: &str, value: &str)
+    requires { array_string_len text.old + length key.now + length value.now + 2 ≤ 256 }
+    ensures bytes { text.new.bytes ≡ text.old.bytes ++ line key.now value.now }
+    ensures within { array_string_len text.new ≤ array_string_len text.old + length key.now + length value.now + 2 }
+{
+    text.push_str(key);
+    text.push('=');
+    text.push_str(value);
+    text.push('\n');
+}
 
-    fn rank_line(&mut self, key: &[u8], rank: &Rank)
-        ensures adds { Adds self.old (line key.now (rank_text rank.now)) self.new }
-        ensures most { length (rank_text rank.now) ≤ 23 }
-    {
-        self.push(key);
-        self.push(b"=");
-        self.push_rank(rank);
-        self.push(b"\n");
-    }
+// The same, with a number for the value.
+fn number_line<I: Integer>(text: &mut Text, key: &str, n: I)
+    requires { array_string_len text.old + length key.now + I.MAX_STR_LEN + 2 ≤ 256 }
+    ensures bytes { text.new.bytes ≡ text.old.bytes ++ line key.now (I.text n) }
+    ensures within { array_string_len text.new ≤ array_string_len text.old + length key.now + I.MAX_STR_LEN + 2 }
+{
+    push_line(text, key, Buffer::new().format(n));
 }
 
 impl Member {
     // The ten lines.
+    #[tactic(auto, using(std::proofs::lemmas::List::append_assoc), unfolding(crate::specs::Sheet::sheet_text))]
     fn lines(&self, table: &[Held]) -> Text
-        ensures text { written result ≡ sheet_text self.now table.now }
-        ensures end { result.end ≡ length (sheet_text self.now table.now) }
-        ensures within { result.end ≤ 256 }
+        ensures { result.bytes ≡ sheet_text self.now table.now }
     {
-        let mut text = Text::new();
-        text.number_line(b"member", self.site.own as u32);
-        text.number_line(b"members", self.site.members as u32);
-        text.number_line(b"view", self.phase.view.0);
-        text.stage_line(b"stage", self.phase.stage);
-        text.number_line(b"round", self.chain.round.0);
-        text.number_line(b"voted", self.phase.voted.0);
-        text.rank_line(b"lock", &self.chain.lock);
-        text.rank_line(b"high", &self.chain.high.rank());
-        text.size_line(b"blocks", self.held);
         let committed = block_at(table, self.chain.last).head.round;
-        text.number_line(b"committed", committed.0);
+        let mut text = ArrayString::new();
+        number_line(&mut text, "member", self.site.own);
+        number_line(&mut text, "members", self.site.members);
+        number_line(&mut text, "view", self.phase.view.0);
+        push_line(&mut text, "stage", self.phase.stage.word());
+        number_line(&mut text, "round", self.chain.round.0);
+        number_line(&mut text, "voted", self.phase.voted.0);
+        push_line(&mut text, "lock", rank_text(self.chain.lock).as_str());
+        push_line(&mut text, "high", rank_text(self.chain.high.rank()).as_str());
+        number_line(&mut text, "blocks", self.held);
+        number_line(&mut text, "committed", committed.0);
         text
     }
 
@@ -99,10 +106,10 @@ impl Member {
         ensures bytes { out.new ≡ sheet_out self.now table.now out.old }
         ensures within { IfOk result (λ n. n ≤ 256) }
     {
-        if table.len() != self.site.places || out.len() != TEXT_MOST {
+        if table.len() != self.site.places || out.len() != SHEET_BYTES {
             return Err(Refusal::Sizes);
         }
         let text = self.lines(table);
-        Ok(put(out, 0, text.written()))
+        Ok(put(out, 0, text.as_str().as_bytes()))
     }
 }

@@ -1,7 +1,9 @@
 // Certificates on the shelf: high at place 0, the recorded one of a member at its number.
-ghost use Rattle.std.specs.Prelude.{◌≡◌, ◌+◌, ◌*◌, ◌<◌, ◌≤◌, [], length};
+ghost use Rattle.std.specs.Prelude.{◌≡◌, ◌<◌, ◌≤◌, [], length, slice_index_or, slice_set};
+ghost use Rattle.blocks.specs.Layout.{overlay};
 ghost use Rattle.member.specs.Shelf.{certificate_length, shelved};
 
+use blocks::layout::put;
 use blocks::statement::Statement;
 use wire::form::{Form, quorum};
 use wire::limits::CERTIFICATE_MOST;
@@ -33,4 +35,14 @@ pub(crate) fn shelved<'a>(
     let end = certificate_length(form, statement);
     let certificate = &shelf[place];
     &certificate[0..end]
+}
+
+// A certificate's bytes at the start of a place of the shelf.
+pub(crate) fn shelve(shelf: &mut [[u8; CERTIFICATE_MOST]], place: usize, bytes: &[u8])
+    requires place { place < length shelf.old }
+    requires room { length bytes.now ≤ 1925 }
+    ensures { shelf.new ≡ slice_set shelf.old place (overlay (slice_index_or shelf.old place []) bytes.now) }
+{
+    let certificate = &mut shelf[place];
+    put(certificate, 0, bytes);
 }

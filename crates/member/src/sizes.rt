@@ -25,36 +25,38 @@ pub struct Lengths {
 fn group_size(n: u8) -> bool
     ensures { result ≡ group_size n }
 {
-    n == 4 || n == 7 || n == 10 || n == 13
+    matches!(n, 4 | 7 | 10 | 13)
 }
 
 fn table_size(places: usize) -> bool
     ensures { result ≡ table_size places }
 {
-    TABLE_LEAST <= places && places <= TABLE_MOST
+    (TABLE_LEAST..=TABLE_MOST).contains(&places)
 }
 
-fn tallies_fit(n: usize, lent: &Lengths) -> bool
-    ensures { result ≡ tallies_fit n lent.now }
-{
-    lent.votes == n && lent.timeouts == n && lent.finished == n && lent.shares == n
-}
+impl Lengths {
+    fn tallies_fit(&self, n: usize) -> bool
+        ensures { result ≡ tallies_fit n self.now }
+    {
+        self.votes == n && self.timeouts == n && self.finished == n && self.shares == n
+    }
 
-fn buffers_fit(n: u8, lent: &Lengths) -> bool
-    ensures { result ≡ buffers_fit n lent.now }
-{
-    lent.shelf == n as usize + 1 && lent.out == OUTGOING_BYTES
-}
+    fn buffers_fit(&self, n: u8) -> bool
+        ensures { result ≡ buffers_fit n self.now }
+    {
+        self.shelf == usize::from(n) + 1 && self.out == OUTGOING_BYTES
+    }
 
-// Whether n, the own number and what is lent are within their limits, and the table as long as at set up.
-pub(crate) fn sized(site: &Site, lent: &Lengths) -> bool
-    ensures answer { result ≡ sized site.now lent.now }
-    ensures parts { result ≡ true → Sized site.now lent.now }
-{
-    let n = site.members;
-    group_size(n)
-        && (0 < site.own && site.own <= n)
-        && tallies_fit(n as usize, lent)
-        && (table_size(lent.table) && lent.table == site.places)
-        && buffers_fit(n, lent)
+    // Whether n, the own number and what is lent are within their limits, and the table as long as at set up.
+    pub(crate) fn fit(&self, site: &Site) -> bool
+        ensures answer { result ≡ sized site.now self.now }
+        ensures parts { result ≡ true → Sized site.now self.now }
+    {
+        let n = site.members;
+        group_size(n)
+            && (0 < site.own && site.own <= n)
+            && self.tallies_fit(usize::from(n))
+            && (table_size(self.table) && self.table == site.places)
+            && self.buffers_fit(n)
+    }
 }

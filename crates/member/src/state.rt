@@ -28,8 +28,8 @@ pub struct Phase {
     pub voted: Round,
 }
 
-// What was proposed last: a round of a view's regular chain, or a height of its fallback chain.
-#[derive(Clone, Copy)]
+// What was proposed last: a round of a view's regular chain, or a height of its fallback chain. Compared from the left.
+#[derive(Clone, Copy, PartialEq, Eq, PartialOrd, Ord)]
 pub struct Proposed {
     pub view: View,
     pub kind: Kind,

@@ -3,18 +3,16 @@ ghost use Rattle.std.specs.Prelude.{◌≡◌, ◌<◌, ◌≤◌, length};
 ghost use Rattle.blocks.specs.Layout.{overlay};
 ghost use Rattle.wire.specs.Forms.{form_of};
 ghost use Rattle.member.specs.Calls.{Leaves};
+ghost use Rattle.member.specs.Memories.{lent};
 ghost use Rattle.member.specs.Shelf.{certificate_length};
 ghost use Rattle.member.specs.Timer.{timer, timeout_message};
 
+use crate::memory::Memory;
 use crate::send::send;
 use crate::shelf::shelved;
-use crate::sign::tag_for;
-use crate::sizes::{Lengths, sized};
 use crate::state::Member;
 use crate::types::*;
 use attest::attestor::{Attestor, TAG_ROOM};
-use collect::items::*;
-use table::held::Held;
 use wire::certificate::Certificate;
 use wire::form::Form;
 use wire::limits::CERTIFICATE_MOST;
@@ -53,45 +51,27 @@ impl Member {
         });
         send(form, &message, out)
     }
-}
 
-impl Member {
     // The view's timer has run out: in steady the member times out, and a timeout with its highest certificate goes to all.
     pub fn timer<A: Attestor>(
         &mut self,
         attestor: &mut A,
-        votes: &[Option<KeptVote>],
-        timeouts: &[Option<KeptTimeout>],
-        finished: &[Option<Finished>],
-        shares: &[Option<KeptShare>],
-        table: &[Held],
-        shelf: &[[u8; CERTIFICATE_MOST]],
+        memory: Memory<'_>,
         out: &mut [u8],
     ) -> Result<Answer, Refusal>
-        ensures { Leaves (timer A.Attestor (form_of A.Attestor self.old.site.members 0) self.old (record { attestor = attestor.entry.now; tallies = record { votes = votes.entry.now; timeouts = timeouts.now; finished = finished.now; shares = shares.now }; table = table.now; shelf = shelf.now; out = out.old })) result self.new attestor.exit.now out.new }
+        ensures { Leaves (timer A.Attestor (form_of A.Attestor self.old.site.members 0) self.old (lent attestor.entry.now memory.entry out.old)) result self.new attestor.exit.now out.new }
     {
-        let lent = Lengths {
-            votes: votes.len(),
-            timeouts: timeouts.len(),
-            finished: finished.len(),
-            shares: shares.len(),
-            table: table.len(),
-            shelf: shelf.len(),
-            out: out.len(),
-        };
-        if !sized(&self.site, &lent) {
+        if !memory.lengths(out.len()).fit(&self.site) {
             return Err(Refusal::Sizes);
         }
-        if !self.phase.stage.is_steady() {
+        if self.phase.stage != Stage::Steady {
             return Err(Refusal::OutOfStage);
         }
         let words = timeout_words(self.phase.view);
         let mut tag = [0; TAG_ROOM];
-        let Some(width) = tag_for(attestor, &words, &mut tag) else {
-            return Err(Refusal::Unsigned);
-        };
+        let width = attestor.sign(&words, &mut tag)?;
         let form = Form::of::<A>(self.site.members, 0);
-        let length = self.write_timeout(form, shelf, &tag[0..width], out);
+        let length = self.write_timeout(form, memory.shelf, &tag[..width], out);
         self.phase.stage = Stage::TimedOut;
         Ok(Answer {
             to: Address::All,

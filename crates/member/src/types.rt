@@ -1,9 +1,12 @@
 // What a call answers, and why one is refused.
 ghost use Rattle.std.specs.Prelude.{◌≡◌};
 ghost use Rattle.member.specs.Words.{refusal_number};
+ghost use Rattle.member.specs.declared.types.Refusal.TheVariants.{Unsigned};
+
+use attest::attestor::WillNotSign;
 
 // Where a member stands in its view.
-#[derive(Clone, Copy)]
+#[derive(Clone, Copy, PartialEq, Eq)]
 pub enum Stage {
     Steady,
     TimedOut,
@@ -28,7 +31,7 @@ pub struct Answer {
 }
 
 // Why a call is refused, in the order in which the rules are judged. A refused call changes nothing.
-#[derive(Clone, Copy)]
+#[derive(Clone, Copy, Debug, PartialEq, Eq)]
 pub enum Refusal {
     // n, the own number or the size of what is lent is outside its limits
     Sizes,
@@ -64,12 +67,12 @@ pub enum Refusal {
     Unsigned,
 }
 
-impl Refusal {
-    // The number of the refusal.
-    pub fn number(self) -> u8
-        ensures { result ≡ refusal_number self }
-    {
-        match self {
+// The number of the refusal.
+impl From<Refusal> for u8 {
+    ghost from_gives = { λ refusal number. number ≡ refusal_number refusal };
+
+    fn from(refusal: Refusal) -> u8 {
+        match refusal {
             Refusal::Sizes => 1,
             Refusal::Form => 2,
             Refusal::Ahead => 3,
@@ -87,5 +90,14 @@ impl Refusal {
             Refusal::Sheet => 15,
             Refusal::Unsigned => 16,
         }
+    }
+}
+
+// An attestor that will not sign.
+impl From<WillNotSign> for Refusal {
+    ghost from_gives = { λ _ refusal. refusal ≡ Unsigned };
+
+    fn from(_: WillNotSign) -> Refusal {
+        Self::Unsigned
     }
 }

@@ -1,82 +1,52 @@
 // When a member votes for a block.
-ghost use Rattle.std.specs.Prelude.{◌≡◌, Bool};
-ghost use Rattle.member.specs.See.{is_fallback, next_round};
-ghost use Rattle.member.specs.Votes.{respects_lock, votes_regular, votes_fallback, votes, collector};
-ghost use Rattle.member.specs.Words.{is_steady, is_in_fallback};
+ghost use Rattle.std.specs.Prelude.{◌≡◌};
+ghost use Rattle.member.specs.See.{next_round};
+ghost use Rattle.member.specs.Votes.{respects_lock, votes_regular, votes_fallback, votes};
 
 use crate::rows::row_of;
 use crate::state::*;
 use crate::types::Stage;
 use blocks::head::Head;
-use blocks::rank::{Kind, Rank, Round, leader};
-use blocks::statement::Statement;
-
-impl Stage {
-    pub(crate) fn is_steady(self) -> bool
-        ensures { result ≡ is_steady self }
-    {
-        match self {
-            Stage::Steady => true,
-            Stage::TimedOut => false,
-            Stage::InFallback => false,
-        }
-    }
-
-    pub(crate) fn is_in_fallback(self) -> bool
-        ensures { result ≡ is_in_fallback self }
-    {
-        match self {
-            Stage::Steady => false,
-            Stage::TimedOut => false,
-            Stage::InFallback => true,
-        }
-    }
-}
-
-pub(crate) fn is_fallback(kind: Kind) -> bool
-    ensures { result ≡ is_fallback kind }
-{
-    match kind {
-        Kind::Regular => false,
-        Kind::Fallback => true,
-    }
-}
+use blocks::rank::{Kind, Rank, Round};
 
 // The round after this one.
-pub(crate) fn next_round(round: Round) -> u32
-    ensures { result ≡ next_round round.0 }
+pub(crate) fn next_round(round: Round) -> Round
+    ensures { result.0 ≡ next_round round.0 }
 {
-    round.0.saturating_add(1)
+    Round(round.0.saturating_add(1))
 }
 
-// Whether a parent of this rank does not lie below the lock.
-fn respects_lock(chain: &Chain, parent: &Rank) -> bool
-    ensures { result ≡ respects_lock chain.now parent.now }
-{
-    !parent.below(&chain.lock)
+impl Chain {
+    // Whether a parent of this rank does not lie below the lock.
+    fn respects_lock(&self, parent: &Rank) -> bool
+        ensures { result ≡ respects_lock self.now parent.now }
+    {
+        *parent >= self.lock
+    }
 }
 
 fn votes_regular(phase: &Phase, chain: &Chain, head: &Head, parent: &Rank) -> bool
     ensures { result ≡ votes_regular phase.now chain.now head.now parent.now }
 {
-    phase.stage.is_steady()
-        && head.view.0 == phase.view.0
-        && head.round.0 == chain.round.0
-        && phase.voted.0 < head.round.0
-        && respects_lock(chain, parent)
+    phase.stage == Stage::Steady
+        && head.view == phase.view
+        && head.round == chain.round
+        && phase.voted < head.round
+        && chain.respects_lock(parent)
 }
 
 fn votes_fallback(phase: &Phase, chain: &Chain, row: &Row, head: &Head, parent: &Rank) -> bool
     ensures { result ≡ votes_fallback phase.now chain.now row.now head.now parent.now }
 {
-    if !phase.stage.is_in_fallback() || head.view.0 != phase.view.0 || head.height <= row.height {
-        return false;
-    }
-    if head.height == 1 {
-        respects_lock(chain, parent)
+    let on_chain = if head.height == 1 {
+        chain.respects_lock(parent)
     } else {
-        row.round.0 < head.round.0
-    }
+        row.round < head.round
+    };
+    phase.stage == Stage::InFallback
+        && head.view == phase.view
+        && row.height < head.height
+        && on_chain
 }
 
 // Whether the member votes for a block whose parent has this rank.

@@ -5,6 +5,7 @@ ghost use Rattle.walkthrough.specs.Sample.{demonstration_key};
 use crate::fault::Fault;
 use crate::lot::Lot;
 use crate::lot_block::LotBlock;
+use attest::group::GroupSize;
 use attest::pair_keys::PairKeys;
 use attest::parts::Key;
 
@@ -15,6 +16,11 @@ pub const LOT: Lot = Lot {
     number: 20_261_117,
     sacks: 40,
 };
+
+// The size of the group.
+pub fn group() -> Result<GroupSize, Fault> {
+    GroupSize::try_from(MEMBERS).map_err(|_| Fault::Step)
+}
 
 // The block that carries the lot.
 pub fn block() -> Result<LotBlock, Fault> {

@@ -1,13 +1,12 @@
 // One message of each kind, of four members that sign in a book.
 use crate::fault::Fault;
 use crate::lot_block::LOT_BLOCK_BYTES;
-use crate::sample::{MEMBERS, block};
+use crate::sample::{MEMBERS, block, group};
 use crate::signing::{
     CERTIFICATE_BYTES, ShareEntry, SignerEntry, certificate, electing_entries, quorum_entries,
 };
 use attest::book::Book;
 use attest::entry::Entry;
-use attest::group::GroupSize;
 use blocks::head::Head;
 use blocks::rank::View;
 use blocks::statement::Statement;
@@ -56,8 +55,7 @@ impl Samples {
         let lot_block = block()?;
         let statement = lot_block.statement();
         let mut table = [Entry::blank(); 8];
-        let group = GroupSize::of(MEMBERS).ok_or(Fault::Step)?;
-        let mut book = Book::over(&mut table, group);
+        let mut book = Book::over(&mut table, group()?);
         let votes = quorum_entries(&mut book, &vote_words(&statement))?;
         Ok(Samples {
             head: lot_block.head,

@@ -2,12 +2,11 @@
 use super::verdict;
 use crate::fault::Fault;
 use crate::hex::Hex;
-use crate::sample::{MEMBERS, block};
+use crate::sample::{block, group};
 use crate::signing::sign_as;
 use attest::attestor::Attestor;
 use attest::book::Book;
 use attest::entry::Entry;
-use attest::group::GroupSize;
 use std::alloc::Global;
 use wire::words::vote_words;
 
@@ -17,8 +16,7 @@ const ENTRIES: usize = 3;
 pub fn chapter(heap: Global) -> Result<String, Fault> {
     let words = vote_words(&block()?.statement());
     let mut table = [Entry::blank(); ENTRIES];
-    let group = GroupSize::of(MEMBERS).ok_or(Fault::Step)?;
-    let mut book = Book::over(&mut table, group);
+    let mut book = Book::over(&mut table, group()?);
     let mut text = String::new(heap);
     writeln!(text, "3. Three members vote in a book of {ENTRIES} entries")?;
     for member in 1..4 {

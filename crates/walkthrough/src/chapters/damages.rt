@@ -97,7 +97,7 @@ pub fn chapter(heap: Global) -> Result<String, Fault> {
 fn write_answer(text: &mut String, told: &str, bytes: &[u8]) -> Result<(), AllocError> {
     match judge(FORM, bytes) {
         Ok(kind) => writeln!(text, "  {told}: read as kind {}", u8::from(kind)),
-        Err(refusal) => writeln!(text, "  {told}: refusal {}", refusal.number()),
+        Err(refusal) => writeln!(text, "  {told}: refusal {}", u8::from(refusal)),
     }
 }
 

@@ -1,10 +1,10 @@
 // The eighth chapter: four members are set up, the first leader proposes, and a timer runs out.
 use crate::fault::Fault;
 use crate::hex::Hex;
-use crate::sample::{LOT, MEMBERS};
+use crate::sample::{LOT, MEMBERS, group};
 use attest::book::Book;
 use attest::entry::Entry;
-use attest::group::GroupSize;
+use member::memory::MemoryMut;
 use member::state::Member;
 use member::types::{Answer, Refusal};
 use std::alloc::{AllocError, Global};
@@ -16,8 +16,7 @@ const ENTRIES: usize = 8;
 
 pub fn chapter(heap: Global) -> Result<String, Fault> {
     let mut entries = [Entry::blank(); ENTRIES];
-    let group = GroupSize::of(MEMBERS).ok_or(Fault::Step)?;
-    let mut book = Book::over(&mut entries, group);
+    let mut book = Book::over(&mut entries, group()?);
     let mut text = String::new(heap);
     writeln!(text, "8. Four members on one book")?;
     for own in 1..=MEMBERS {
@@ -28,32 +27,20 @@ pub fn chapter(heap: Global) -> Result<String, Fault> {
 
 // Sets a member up, shows its sheet, and lets member 1 propose a lot and member 3's timer run out.
 fn write_member(text: &mut String, book: &mut Book<'_>, own: u8) -> Result<(), Fault> {
-    let mut votes = [None; 4];
-    let mut timeouts = [None; 4];
-    let mut finished = [None; 4];
-    let mut shares = [None; 4];
-    let mut table = [GENESIS; 8];
-    let mut shelf = [[0; CERTIFICATE_MOST]; 5];
+    let mut memory = MemoryMut {
+        votes: &mut [None; 4],
+        timeouts: &mut [None; 4],
+        finished: &mut [None; 4],
+        shares: &mut [None; 4],
+        table: &mut [GENESIS; 8],
+        shelf: &mut [[0; CERTIFICATE_MOST]; 5],
+    };
     let mut out = [0; OUTGOING_BYTES];
-    let mut member = Member::set_up(
-        own,
-        MEMBERS,
-        &mut votes,
-        &mut timeouts,
-        &mut finished,
-        &mut shares,
-        &mut table,
-        &mut shelf,
-        &out,
-    )
-    .map_err(|_| Fault::Step)?;
-    write_sheet(text, &member, &table)?;
+    let mut member = Member::set_up(own, MEMBERS, &mut memory, &out).map_err(|_| Fault::Step)?;
     book.hand_to(own).map_err(|_| Fault::Step)?;
+    write_sheet(text, &member, memory.table)?;
     if own == 1 {
-        let payload = LOT.payload();
-        let answer = member.propose(
-            book, &votes, &timeouts, &finished, &shares, &table, &shelf, &payload, &mut out,
-        );
+        let answer = member.propose(book, memory.shared(), &LOT.payload(), &mut out);
         write_answer(
             text,
             "is the leader of round 1 and proposes a lot",
@@ -62,11 +49,9 @@ fn write_member(text: &mut String, book: &mut Book<'_>, own: u8) -> Result<(), F
         )?;
     }
     if own == 3 {
-        let answer = member.timer(
-            book, &votes, &timeouts, &finished, &shares, &table, &shelf, &mut out,
-        );
+        let answer = member.timer(book, memory.shared(), &mut out);
         write_answer(text, "has waited long enough and times out", answer, &out)?;
-        write_sheet(text, &member, &table)?;
+        write_sheet(text, &member, memory.table)?;
     }
     Ok(())
 }
@@ -101,6 +86,6 @@ fn write_answer(
                 Hex(message)
             )
         }
-        Err(refusal) => writeln!(text, "    it {what}: refused with {}", refusal.number()),
+        Err(refusal) => writeln!(text, "    it {what}: refused with {}", u8::from(refusal)),
     }
 }

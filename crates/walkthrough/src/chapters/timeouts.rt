@@ -2,7 +2,7 @@
 use crate::fault::Fault;
 use crate::sample::MEMBERS;
 use std::alloc::Global;
-use tally::{Numbered, Refused, keep};
+use tally::{Numbered, Refused, Tally};
 use wire::form::quorum;
 
 // The members whose timeouts come in, in turn.
@@ -11,11 +11,11 @@ const SENDERS: [usize; 5] = [1, 2, 2, 3, 4];
 pub fn chapter(heap: Global) -> Result<String, Fault> {
     let threshold = quorum(MEMBERS) as usize;
     let mut places = [None; MEMBERS as usize];
+    let mut tally = Tally::over(&mut places);
     let mut text = String::new(heap);
     writeln!(text, "5. Timeouts of view 0 are counted up to {threshold}")?;
     for member in SENDERS {
-        let place = member.saturating_sub(1);
-        let answer = keep(&mut places, place, Numbered { number: 0 }, threshold);
+        let answer = tally.put(member.saturating_sub(1), Numbered { number: 0 }, threshold);
         writeln!(text, "  member {member}: {}", told(answer))?;
     }
     Ok(text)
