@@ -49,8 +49,8 @@ fn nested_digest(block: [u8; 64], text: &[u8]) -> [u8; 32]
 fn masked_block(mut block: [u8; 64], mask: u8) -> [u8; 64]
     ensures { result ≡ map (masked mask) block }
 {
-    for i in 0..64 {
-        block[i] = block[i] ^ mask;
+    for byte in &mut block {
+        *byte ^= mask;
     }
     block
 }
