@@ -20,8 +20,7 @@ fn key_block(key: &[u8]) -> [u8; 64]
     if key.len() <= 64 {
         filled_block(key)
     } else {
-        let short = sha256(key);
-        filled_block(&short)
+        filled_block(&sha256(key))
     }
 }
 

@@ -1,4 +1,4 @@
-use Rattle.std.proofs.Common.{◌∙◌, arith, rules}
+use Rattle.std.proofs.Common.{rules}
 use Rattle.digest.proofs.Steps.{read_word}
 use Rattle.digest.proofs.compression.scheduled_word.Goals as goal
 
