@@ -23,7 +23,7 @@ use Rattle.laws.proofs.Officials.{unendorsed_past}
 use Rattle.laws.proofs.Rules.{Broken, here, later, First, first}
 
 never_some : {A : Type 0} (s : A) → None ≡ Some s → ⊥
-never_some s e = let z : ◌≡◌ {A = ℕ} 0 1 = cc in omega arith
+never_some s e = cc
 
 same_some : {A : Type 0} (o : Option A) (s t : A) → o ≡ Some s → o ≡ Some t → s ≡ t
 same_some o s t p q = cc
