@@ -13,7 +13,7 @@ pub const TAG_ROOM: usize = 16 * MAX_MEMBERS as usize;
 pub const WORDS_MOST: usize = 44;
 
 /// The words will not be signed.
-#[derive(Clone, Copy)]
+#[derive(Clone, Copy, Debug, PartialEq, Eq)]
 pub struct WillNotSign;
 
 /// A member's hold on a signing scheme: which triples of signer, words and tag it accepts, which words it signs, and by

@@ -21,7 +21,7 @@ pub struct Book<'a> {
 }
 
 /// The number is of no member of the group, nor of the dealer.
-#[derive(Clone, Copy)]
+#[derive(Clone, Copy, Debug, PartialEq, Eq)]
 pub struct NotAMember;
 
 impl<'a> Book<'a> {
@@ -56,11 +56,9 @@ impl<'a> Book<'a> {
         ensures { result ≡ holds_at (entered self.now) place signer words.now }
     {
         let entered = (self.count as usize).min(self.entries.len());
-        if place as usize >= entered {
-            return false;
-        }
-        let entry = self.entries[place as usize];
-        entry.holds(signer, words)
+        self.entries[..entered]
+            .get(place as usize)
+            .is_some_and(|entry| entry.holds(signer, words))
     }
 }
 
@@ -104,10 +102,10 @@ impl Attestor for Book<'_> {
     }
 
     fn accept(&self, signer: u8, words: &[u8], tag: &[u8]) -> bool {
-        let [a, b, c, d] = tag else {
+        let Ok(place) = tag.try_into() else {
             return false;
         };
-        self.holds_at(u32::from_be_bytes([*a, *b, *c, *d]), signer, words)
+        self.holds_at(u32::from_be_bytes(place), signer, words)
     }
 
     fn sign(&mut self, words: &[u8], tag: &mut [u8; TAG_ROOM]) -> Result<usize, WillNotSign> {

@@ -16,9 +16,7 @@ pub(crate) fn pair_part(key: &Key, words: &[u8]) -> [u8; PART]
     ensures { result ≡ pair_part words.now key.now }
 {
     let code = hmac(key, words);
-    let mut part = [0; PART];
-    part.copy_from_slice(&code[0..PART]);
-    part
+    *code.first_chunk().unwrap()
 }
 
 /// Writes the tag for the words, under the keys that a signer shares with the receivers 1, 2 and on, to the start of `out`
@@ -30,10 +28,8 @@ pub fn pair_tag(keys: &[Key], words: &[u8], out: &mut [u8]) -> Option<usize>
     if keys.len() > out.len() / PART {
         return None;
     }
-    for i in 0..keys.len() {
-        let key = keys[i];
-        let part = pair_part(&key, words);
-        out[PART * i..PART * i + PART].copy_from_slice(&part);
+    for (i, key) in keys.iter().enumerate() {
+        out[PART * i..PART * i + PART].copy_from_slice(&pair_part(key, words));
     }
     Some(PART * keys.len())
 }

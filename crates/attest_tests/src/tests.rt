@@ -10,14 +10,8 @@ fn key(signer: u8, receiver: u8) -> Key {
 }
 
 fn member(own: u8) -> Option<PairKeys> {
-    let sending = [key(own, 1), key(own, 2), key(own, 3), key(own, 4)];
-    let receiving = [
-        key(0, own),
-        key(1, own),
-        key(2, own),
-        key(3, own),
-        key(4, own),
-    ];
+    let sending = [1, 2, 3, 4].map(|receiver| key(own, receiver));
+    let receiving = [0, 1, 2, 3, 4].map(|signer| key(signer, own));
     PairKeys::new(own, &sending, &receiving)
 }
 
@@ -49,7 +43,7 @@ fn pair_keys_sign(rt: HostRuntime) {
     let by_one: &[u8] = BY_ONE;
     assert!(rt; &tag[0..64] == by_one);
     assert!(rt; tag[64] == 7);
-    let keys = [key(0, 1), key(0, 2), key(0, 3), key(0, 4)];
+    let keys = [1, 2, 3, 4].map(|receiver| key(0, receiver));
     assert_eq!(rt; pair_tag(&keys, WORDS, &mut tag), Some(64));
     let by_dealer: &[u8] = BY_DEALER;
     assert!(rt; &tag[0..64] == by_dealer);
@@ -82,7 +76,7 @@ fn pair_keys_refused(rt: HostRuntime) {
 fn book(rt: HostRuntime) {
     let mut tag = [9; TAG_ROOM];
     let mut table = [Entry::blank(); 2];
-    let Some(group) = GroupSize::of(4) else {
+    let Ok(group) = GroupSize::try_from(4) else {
         panic!(rt; "no group")
     };
     let mut book = Book::over(&mut table, group);

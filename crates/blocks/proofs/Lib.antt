@@ -3,3 +3,4 @@ pub mod RoundTrips
 pub mod Ordered
 pub mod Examples
 pub mod SameStatements
+pub mod Fronts

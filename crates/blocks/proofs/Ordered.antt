@@ -6,6 +6,7 @@ use Rattle.blocks.specs.declared.rank.Kind.{Kind}
 use Rattle.blocks.specs.declared.rank.Kind.TheVariants.{Regular, Fallback}
 use Rattle.blocks.specs.declared.rank.Rank.{Rank}
 use Rattle.blocks.specs.Ranks.{kind_number, view, round, less_rank, Below, by_view, by_kind, by_round, RanksOrdered}
+use Rattle.blocks.proofs.SameStatements.{same_kind}
 
 irreflexive : (a : Rank) → less_rank a a ≡ false
 irreflexive a = grind (arith, nat_tests)
@@ -13,15 +14,9 @@ irreflexive a = grind (arith, nat_tests)
 transitive : (a b c : Rank) → less_rank a b ≡ true → less_rank b c ≡ true → less_rank a c ≡ true
 transitive a b c p q = grind (arith, nat_tests)
 
--- two views, kinds or ranks with the same numbers are the same
+-- two views or ranks with the same numbers are the same
 same_view : (a b : Rank) → a.view.0 ≡ b.view.0 → a.view ≡ b.view
 same_view a b e = ap view e
-
-same_kind : (k l : Kind) → kind_number k ≡ kind_number l → k ≡ l
-same_kind Regular Regular e = refl
-same_kind Regular Fallback e = absurd (omega arith)
-same_kind Fallback Regular e = absurd (omega arith)
-same_kind Fallback Fallback e = refl
 
 same_rank : (a b : Rank) → a.view.0 ≡ b.view.0 → kind_number a.kind ≡ kind_number b.kind → a.round.0 ≡ b.round.0 → a ≡ b
 same_rank a b v k r =

@@ -1,6 +1,6 @@
 -- What is written reads back, and what is read writes back. A head begins as a statement does: its 43 bytes are those of a
 -- statement with the parent's id, so one lemma each way serves both.
-use Rattle.std.proofs.Common.{◌≡◌, ℕ, zero, suc, ◌+◌, ◌^◌, ◌<◌, ◌≤◌, Bool, true, false, cond, ◌&&◌, eqb, ltb, leb, List, [], ◌∷◌, ◌++◌, length, get_or, take, drop, replicate, Some, None, Option, sym, refl, ap, ◌∙◌, subst, inl, inr, arith}
+use Rattle.std.proofs.Common.{◌≡◌, ℕ, zero, suc, ◌+◌, ◌^◌, ◌<◌, ◌≤◌, true, ◌&&◌, eqb, ltb, leb, List, [], ◌∷◌, ◌++◌, length, get_or, take, drop, replicate, Some, Option, sym, refl, ap, ◌∙◌, subst, inl, inr, arith}
 use Rattle.std.specs.List.{between}
 use Rattle.std.specs.Str.{bytes_eq}
 use Rattle.std.proofs.ByRecursion.{All-get_or, All-take}
@@ -8,6 +8,7 @@ use Rattle.std.proofs.lemmas.Slice.Eq.{bytes_eq-Decides}
 use Rattle.std.proofs.lemmas.List.{append-nil, length-append, length-take, length-drop, take_all, take_at, take-append-drop, drop_more, drop_all, get_or-append_right}
 use Rattle.std.proofs.lemmas.Bool.{and_parts, and_from, cases_eq, cond-true, cond-false, eq-eqb, eqb-true, leb-true, le-leb, lt-ltb, ltb-true, ne_eqb}
 use Rattle.std.proofs.lemmas.Bool.Decides.{nat_tests}
+use Rattle.std.proofs.lemmas.Option.{cond_some}
 use Rattle.digest.specs.Bytes.{bytes16, bytes32, number16, number32}
 use Rattle.digest.proofs.Bytes.{number16_bytes16, bytes16_number, number32_bytes32, bytes32_number}
 use Rattle.blocks.specs.declared.rank.Kind.{Kind}
@@ -112,11 +113,6 @@ module _ (n : ℕ) (bs : List ℕ) (f : Front n bs) where
     ids = simp (length-take, length-drop) (omega (arith, f.long));
   }
 
--- what a passed test gave
-given : {A : Type 0} (b : Bool) (x a : A) → cond b (Some x) None ≡ Some a → (b ≡ true) × (x ≡ a)
-given true x a e = (refl, cc)
-given false x a e = let z : ◌≡◌ {A = ℕ} 0 1 = cc in absurd (omega arith)
-
 -- Statements
 
 statement_back : (n : ℕ) (s : Statement) → StatementFits n s → read_statement n (statement_bytes s) ≡ Some s
@@ -130,7 +126,7 @@ statement_back n s (inr f) =
 
 statement_read : (n : ℕ) (bs : List ℕ) (s : Statement) → AreBytes bs → read_statement n bs ≡ Some s → (statement_bytes s ≡ bs) × StatementFits n s
 statement_read n bs s bytes e =
-    let was = given _ (statement_of bs) s e in
+    let was = cond_some _ (statement_of bs) s e in
     let passed = and_parts (eqb (length bs) 43) (statement_formed n bs) was.0 in
     let long : length bs ≡ 43 = eqb-true (length bs) 43 passed.0 in
     let genesis_formed = bytes_eq bs (replicate 43 0) in
@@ -156,7 +152,7 @@ statements_round_trip n = record {
 -- Heads
 
 -- the head with the fields of a statement, whose id is the parent's, and with this payload
-abbrev heading : Statement → ℕ → Head
+abbrev pub heading : Statement → ℕ → Head
 heading s payload = record { kind = s.kind; height = s.height; proposer = s.proposer; view = s.view; round = s.round; parent = s.id; payload = payload }
 
 number_past : (p q : List ℕ) → length p ≡ 32 → number16 (p ++ q) 32 ≡ number16 q 0
@@ -181,7 +177,7 @@ head_back n h f =
 
 head_read : (n : ℕ) (bs : List ℕ) (h : Head) → AreBytes bs → read_head n bs ≡ Some h → (head_bytes h ≡ bs) × HeadFits n h
 head_read n bs h bytes e =
-    let was = given _ (head_of bs) h e in
+    let was = cond_some _ (head_of bs) h e in
     let passed = and_parts (eqb (length bs) 45) (head_formed n bs) was.0 in
     let long : length bs ≡ 45 = eqb-true (length bs) 45 passed.0 in
     let some = and_parts (ltb 0 (get_or bs 2 0)) _ passed.1 in

@@ -1,7 +1,8 @@
 -- Views, rounds and kinds; the order of ranks; who leads a round.
-use Rattle.std.specs.Prelude.{◌≡◌, ℕ, ◌+◌, ◌-◌, ◌/◌, ◌%◌, ◌<◌, Bool, true, false, cond, ◌&&◌, ◌||◌, ◌⊎◌, Some, None, Decides, Option, ◌==◌, nat_lt}
+use Rattle.std.specs.Prelude.{◌≡◌, ℕ, ◌+◌, ◌-◌, ◌/◌, ◌%◌, ◌<◌, Bool, true, false, cond, ◌&&◌, ◌||◌, ◌⊎◌, Some, None, Decides, Option, Result, MatchResult, ◌==◌, nat_lt}
 use Rattle.blocks.specs.declared.rank.Kind.{Kind}
 use Rattle.blocks.specs.declared.rank.Kind.TheVariants.{Regular, Fallback}
+use Rattle.blocks.specs.declared.rank.NoKind.{NoKind}
 use Rattle.blocks.specs.declared.rank.View.{View}
 use Rattle.blocks.specs.declared.rank.Round.{Round}
 use Rattle.blocks.specs.declared.rank.Rank.{Rank}
@@ -15,6 +16,10 @@ kind_number Fallback = 1
 -- the kind of a byte; no other byte than 0 and 1 has the form of one
 abbrev pub kind_of : ℕ → Kind
 kind_of b = cond (b == 0) Regular Fallback
+
+-- what a byte is read as: the kind that it is the byte of, or else the byte, which is of none
+abbrev pub KindRead : ℕ → Result Kind NoKind → Type 0
+KindRead byte r = MatchResult r (λ kind. kind_number kind ≡ byte) (λ e. (e.0 ≡ byte) × (1 < byte))
 
 abbrev pub view : ℕ → View
 view v = record { 0 = v }

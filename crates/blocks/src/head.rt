@@ -1,14 +1,14 @@
 // The heads of blocks.
-ghost use Rattle.std.specs.Prelude.{◌≡◌, length};
-ghost use Rattle.blocks.specs.Heads.{block_id, head_bytes, head_formed, read_head, said};
+ghost use Rattle.std.specs.Prelude.{◌≡◌};
+ghost use Rattle.blocks.specs.Heads.{block_id, head_bytes, read_head, said};
 
-use crate::layout::front_and_length;
-use crate::limits::{HEAD_BYTES, ID_BYTES, PAYLOAD_MOST};
+use crate::layout::put;
+use crate::limits::{HEAD_BYTES, PAYLOAD_MOST};
 use crate::rank::{Kind, Round, View};
-use crate::statement::{Statement, height_fits, kind_of, number_at};
+use crate::statement::Statement;
 use digest::Sha256;
 
-#[derive(Clone, Copy)]
+#[derive(Clone, Copy, Debug, PartialEq, Eq)]
 pub struct Head {
     pub kind: Kind,
     pub height: u8,
@@ -26,19 +26,27 @@ impl Head {
     pub fn read(bytes: &[u8], n: u8) -> Option<Head>
         ensures { result ≡ read_head n bytes.now }
     {
-        if bytes.len() != HEAD_BYTES || !formed(bytes, n) {
+        let (front, payload) = bytes.split_last_chunk::<2>()?;
+        let Statement {
+            kind,
+            height,
+            proposer,
+            view,
+            round,
+            id: parent,
+        } = Statement::read(front, n)?;
+        let payload = u16::from_be_bytes(*payload);
+        if proposer == 0 || payload as usize > PAYLOAD_MOST {
             return None;
         }
-        let mut parent = [0; ID_BYTES];
-        parent.copy_from_slice(&bytes[11..43]);
         Some(Head {
-            kind: kind_of(bytes[0]),
-            height: bytes[1],
-            proposer: bytes[2],
-            view: View(number_at(bytes, 3)),
-            round: Round(number_at(bytes, 7)),
+            kind,
+            height,
+            proposer,
+            view,
+            round,
             parent,
-            payload: u16::from_be_bytes([bytes[43], bytes[44]]),
+            payload,
         })
     }
 
@@ -46,8 +54,10 @@ impl Head {
     pub fn bytes(&self) -> [u8; 45]
         ensures { result ≡ head_bytes self.now }
     {
-        let front = self.said(self.parent).bytes();
-        front_and_length(&front, self.payload)
+        let mut out = [0; HEAD_BYTES];
+        let at = put(&mut out, 0, &self.said(self.parent).bytes());
+        put(&mut out, at, &self.payload.to_be_bytes());
+        out
     }
 
     // What is said of the block that has this head and this id.
@@ -73,17 +83,4 @@ pub fn block_id(head: &Head, payload: &[u8]) -> [u8; 32]
     hasher.update(&head.bytes());
     hasher.update(payload);
     hasher.finish()
-}
-
-// Whether 45 bytes have the form of a head among n members.
-fn formed(bytes: &[u8], n: u8) -> bool
-    requires { length bytes.now ≡ 45 }
-    ensures { result ≡ head_formed n bytes.now }
-{
-    let proposer = bytes[2];
-    let payload = u16::from_be_bytes([bytes[43], bytes[44]]);
-    0 < proposer
-        && proposer <= n
-        && height_fits(bytes[0], bytes[1])
-        && payload as usize <= PAYLOAD_MOST
 }

@@ -9,7 +9,6 @@ pub mod head;
 pub mod layout;
 pub mod limits;
 pub mod rank;
-pub mod sameness;
 pub mod statement;
 #[cfg(test)]
 mod tests;

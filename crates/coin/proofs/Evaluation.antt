@@ -1,13 +1,18 @@
 -- A polynomial's value by Horner's rule, and the dealings made of such values.
-use Rattle.std.proofs.Common.{◌≡◌, ℕ, ◌+◌, ◌*◌, ◌%◌, ◌≤◌, List, ◌∷◌, sym, ap, ◌∙◌, subst, arith}
-use Rattle.coin.specs.Polynomials.{eval, Residues, DealingsAreSound}
-use Rattle.coin.specs.Algebra.{reduce_right}
+use Rattle.std.proofs.Common.{◌≡◌, ℕ, ◌+◌, ◌*◌, ◌%◌, List, [], ◌∷◌, reverse, refl, ap, ◌∙◌, arith}
+use Rattle.std.specs.List.{fold}
+use Rattle.std.proofs.lemmas.Grind.{fold-append, reverse_onto}
+use Rattle.std.proofs.lemmas.Nat.{mul-mod_second}
+use Rattle.coin.specs.Polynomials.{eval, DealingsAreSound}
 
-pub horner : (c : ℕ) (cs xs : List ℕ) (x v r : ℕ) → r ≡ (c + x * v) % 257 → xs ≡ c ∷ cs → c ≤ 256 → Residues cs × (v ≡ eval cs x % 257) → Residues xs × (r ≡ eval xs x % 257)
-horner c cs xs x v r next e h rest =
-    let reduced : x * v % 257 ≡ x * eval cs x % 257 = ap (λ y. x * y % 257) rest.1 ∙ reduce_right x (eval cs x) in
-    let value : r ≡ (c + x * eval cs x) % 257 = omega arith in
-    (subst Residues (sym e) (h, rest.0), value ∙ ap (λ ys. eval ys x % 257) (sym e))
+abbrev pub step : ℕ → ℕ → ℕ → ℕ
+step x higher constant = (constant + x * higher) % 257
+
+pub horner : (x : ℕ) (cs : List ℕ) → fold (step x) 0 (reverse cs) ≡ eval cs x % 257
+horner x [] = refl
+horner x (c ∷ cs) =
+    let last : step x (eval cs x % 257) c ≡ eval (c ∷ cs) x % 257 = omega (arith, mul-mod_second x (eval cs x) 257) in
+    ap (fold (step x) 0) (reverse_onto cs c []) ∙ fold-append (step x) 0 (reverse cs) (c ∷ []) ∙ ap (λ v. step x v c) (horner x cs) ∙ last
 
 pub dealings_are_sound_lem : DealingsAreSound
 dealings_are_sound_lem n p d some deals view = record {

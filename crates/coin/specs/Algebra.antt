@@ -1,16 +1,7 @@
 -- What Newton's interpolation needs of numbers modulo 257, where 256 stands for -1.
-use Rattle.std.specs.Prelude.{◌≡◌, ℕ, ◌+◌, ◌*◌, ◌/◌, ◌%◌, ◌<◌, ◌≤◌, ◌≢◌}
+use Rattle.std.specs.Prelude.{◌≡◌, ℕ, ◌+◌, ◌*◌, ◌%◌, ◌<◌, ◌≤◌, ◌≢◌}
 use Rattle.std.proofs.Common.{sym, ap, ◌∙◌, add-mul, mul-add, mul_assoc, mul_comm, mul_left_comm, one-mul, arith}
-use Rattle.std.proofs.Math.Nat.{mod-add-div}
-
--- a factor may be reduced first
-pub reduce_left : (a b : ℕ) → (a % 257) * b % 257 ≡ a * b % 257
-reduce_left a b =
-    let parts : a * b ≡ (a % 257) * b + 257 * (a / 257 * b) = ap (λ x. x * b) (sym (mod-add-div a 257)) ∙ add-mul (a % 257) (257 * (a / 257)) b ∙ ap (λ x. (a % 257) * b + x) (mul_assoc 257 (a / 257) b) in
-    omega (arith, parts)
-
-pub reduce_right : (a b : ℕ) → a * (b % 257) % 257 ≡ a * b % 257
-reduce_right a b = ap (λ x. x % 257) (mul_comm a (b % 257)) ∙ reduce_left b a ∙ ap (λ x. x % 257) (mul_comm b a)
+use Rattle.std.proofs.lemmas.Nat.{mul-mod_first, mul-mod_second}
 
 -- numbers up to 256 that differ have a difference other than 0
 pub run_positive : (x x0 : ℕ) → x ≤ 256 → x0 ≤ 256 → x ≢ x0 → 0 < (x + 256 * x0) % 257
@@ -29,9 +20,9 @@ slope y y0 x x0 q v h inverts =
     let spread : run * q ≡ x * q + 256 * (x0 * q) = add-mul x (256 * x0) q ∙ ap (λ z. x * q + z) (mul_assoc 256 x0 q) in
     let rise : (y % 257 + 256 * (y0 % 257)) % 257 ≡ run * q % 257 = omega (arith, spread) in
     let turned : run * q * v ≡ run * v * q = mul_assoc run q v ∙ ap (λ z. run * z) (mul_comm q v) ∙ sym (mul_assoc run v q) in
-    ap (λ z. z * v % 257) rise ∙ reduce_left (run * q) v ∙ ap (λ z. z % 257) turned ∙ sym (reduce_left (run * v) q)
-    ∙ ap (λ z. z * q % 257) (sym (reduce_left run v) ∙ inverts) ∙ ap (λ z. z % 257) (one-mul q)
+    ap (λ z. z * v % 257) rise ∙ mul-mod_first (run * q) v 257 ∙ ap (λ z. z % 257) turned ∙ sym (mul-mod_first (run * v) q 257)
+    ∙ ap (λ z. z * q % 257) (sym (mul-mod_first run v 257) ∙ inverts) ∙ ap (λ z. z % 257) (one-mul q)
 
 -- the value at 0, from that at x0 and the quotient's value at 0
 pub constant : (c y0 x0 q : ℕ) → c + x0 * q ≡ y0 + 0 * q → (y0 % 257 + 256 * (x0 * (q % 257))) % 257 ≡ c % 257
-constant c y0 x0 q h = omega (arith, reduce_right x0 q)
+constant c y0 x0 q h = omega (arith, mul-mod_second x0 q 257)

@@ -3,7 +3,6 @@ use Rattle.std.specs.Prelude.{◌≡◌, ℕ, zero, suc, ◌+◌, ◌*◌, ◌%�
 use Rattle.std.proofs.Common.{sym, ap, ◌∙◌, arith}
 use Rattle.std.specs.List.{AllByRecursion}
 use Rattle.std.proofs.lemmas.List.{length-map, nil_from_length}
-use Rattle.std.proofs.ByRecursion.{All-map, All-weaker}
 use Rattle.coin.specs.declared.shares.Share.{Share}
 use Rattle.coin.specs.Shares.{Known, AllKnown, Other, Apart, Dealing, Dealt, WellFormed, member_of}
 use Rattle.coin.specs.Polynomials.{eval, Sound, winner_of}
@@ -11,7 +10,7 @@ use Rattle.coin.specs.Interpolation.{inverse_of, reduce, at_zero, elected_by}
 use Rattle.coin.specs.Algebra.{run_positive, division_step, slope, constant}
 use Rattle.coin.specs.Inverses.{inverse_law}
 use Rattle.coin.specs.Reduced.{apart_reduced}
-use Rattle.coin.specs.Pieces.{all_both}
+use Rattle.coin.specs.Pieces.{all_map, all_weaker, all_both}
 
 -- the coefficients of (c + x p - its value at x0) / (x - x0)
 abbrev quotient : ℕ → List ℕ → List ℕ
@@ -55,7 +54,7 @@ interpolates (suc k) (s ∷ ss) (c ∷ p) count degree known apart on =
     let rest : at_zero k (map (reduce s) ss) ≡ eval q 0 % 257 = interpolates k (map (reduce s) ss) q
     (length-map ss (reduce s) ∙ omega arith)
     (length_quotient x0 p ∙ omega arith ∙ sym (length-map ss (reduce s)))
-    (All-map (Known 256) (reduce s) ss known.1)
+    (all_map (Known 256) (reduce s) ss known.1)
     (apart_reduced s ss apart.1)
     (all_reduced c p s known.0 on.0 ss known.1 apart.0 on.1) in
     ap (λ v. (v + 256 * (x0 * at_zero k (map (reduce s) ss))) % 257) on.0
@@ -66,7 +65,7 @@ interpolates (suc k) (s ∷ ss) (c ∷ p) count degree known apart on =
 pub secret_found : (n : ℕ) (d : Dealing) (s : Sound n d) (view : ℕ) (shares : List Share) → n < 257 → WellFormed n 256 shares → Dealt d view shares → at_zero (length shares) shares ≡ eval (s view).coefficients 0 % 257
 secret_found n d s view shares small formed dealt =
     let curve = s view in
-    let known = All-weaker (Known n) (Known 256) (λ t k. (k.0, omega arith)) shares formed.known in
+    let known = all_weaker (Known n) (Known 256) (λ t k. (k.0, omega arith)) shares formed.known in
     let on = all_both (Known n) (λ t. t.value ≡ d view t.member) (On curve.coefficients) (λ t k e. e ∙ curve.through t.member k) shares formed.known dealt in
     interpolates (length shares) shares curve.coefficients refl (curve.degree ∙ sym formed.count) known formed.apart on
 

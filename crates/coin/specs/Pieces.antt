@@ -1,8 +1,7 @@
--- A slice that a pattern takes apart, and what a loop finds of each element.
-use Rattle.std.specs.Prelude.{◌≡◌, ℕ, ◌-◌, ◌<◌, ◌≤◌, List, [], ◌∷◌, length, take, drop, slice_index_or}
-use Rattle.std.proofs.Common.{sym, ap, subst, not-suc-le-zero}
-use Rattle.std.proofs.lemmas.List.{take_all, take_rest}
-use Rattle.std.proofs.ByRecursion.{All-get_or}
+-- A slice that a pattern takes apart, and facts on each element.
+use Rattle.std.specs.Prelude.{◌≡◌, ◌-◌, ◌≤◌, List, [], ◌∷◌, map, length, take, drop, slice_index_or}
+use Rattle.std.proofs.Common.{sym, ap, not-suc-le-zero}
+use Rattle.std.proofs.lemmas.List.{take_rest}
 use Rattle.std.specs.List.{AllByRecursion}
 
 module _ {X : Type 0} (none : X) where
@@ -11,12 +10,14 @@ module _ {X : Type 0} (none : X) where
   whole [] h = absurd (not-suc-le-zero h)
   whole (x ∷ xs) h = ap (λ ys. x ∷ ys) (sym (take_rest (x ∷ xs) 1))
 
-  pub not_all : (P : X → Type 0) (xs : List X) (i : ℕ) → i < length xs → (P (slice_index_or xs i none) → ⊥) → AllByRecursion P xs → ⊥
-  not_all P xs i h fails all = fails (All-get_or P xs i none h all)
-
 module _ {X : Type 0} (P : X → Type 0) where
-  pub all_seen : (xs : List X) (i : ℕ) → length xs ≤ i → AllByRecursion P (take i xs) → AllByRecursion P xs
-  all_seen xs i h all = subst (AllByRecursion P) (take_all i xs h) all
+  pub all_map : {Y : Type 0} (f : Y → X) (ys : List Y) → AllByRecursion (λ y. P (f y)) ys → AllByRecursion P (map f ys)
+  all_map f [] h = tt
+  all_map f (y ∷ ys) h = (h.0, all_map f ys h.1)
+
+  pub all_weaker : (Q : X → Type 0) → ((x : X) → P x → Q x) → (xs : List X) → AllByRecursion P xs → AllByRecursion Q xs
+  all_weaker Q f [] h = tt
+  all_weaker Q f (x ∷ xs) h = (f x h.0, all_weaker Q f xs h.1)
 
   pub all_both : (Q R : X → Type 0) → ((x : X) → P x → Q x → R x) → (xs : List X) → AllByRecursion P xs → AllByRecursion Q xs → AllByRecursion R xs
   all_both Q R f [] p q = tt

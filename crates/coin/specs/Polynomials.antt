@@ -26,11 +26,6 @@ winner_of n d s view = member_of n (eval (s view).coefficients 0 % 257)
 abbrev pub Residues : List ℕ → Type 0
 Residues cs = AllByRecursion (λ c. c ≤ 256) cs
 
--- the polynomial's value at x modulo 257, and none only where a coefficient is no residue
-abbrev pub Evaluated : List ℕ → ℕ → Option ℕ → Type 0
-Evaluated cs x (Some v) = Residues cs × (v ≡ eval cs x % 257)
-Evaluated cs x None = Residues cs → ⊥
-
 -- the coefficients make a polynomial of degree at most f, and m is one of the members to deal to
 pub record Dealable (n : ℕ) (cs : List ℕ) (m : ℕ) : Type 0 where
   pub degree : length cs ≡ size n

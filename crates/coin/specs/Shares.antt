@@ -1,5 +1,5 @@
 -- Dealings and shares: when shares are well formed, and what an election of them answers.
-use Rattle.std.specs.Prelude.{◌≡◌, ℕ, ◌+◌, ◌-◌, ◌/◌, ◌%◌, ◌≤◌, Bool, ◌≢◌, List, [], ◌∷◌, length, Ok, Err, MatchBool, Result}
+use Rattle.std.specs.Prelude.{◌≡◌, ℕ, ◌+◌, ◌-◌, ◌/◌, ◌%◌, ◌≤◌, Bool, ◌&&◌, ◌≢◌, List, [], ◌∷◌, length, Ok, Err, MatchBool, Result, nat_lt, nat_le}
 use Rattle.std.specs.List.{AllByRecursion}
 use Rattle.coin.specs.declared.shares.Share.{Share}
 use Rattle.coin.specs.declared.shares.ElectError.{ElectError}
@@ -24,6 +24,10 @@ size n = faults n + 1
 -- m is one of the members 1 to n
 abbrev pub Member : ℕ → ℕ → Type 0
 Member n m = (1 ≤ m) × (m ≤ n)
+
+-- the same as a test
+abbrev pub is_member : ℕ → ℕ → Bool
+is_member n m = nat_lt 0 m && nat_le m n
 
 -- the member that the number s elects
 abbrev pub member_of : ℕ → ℕ → ℕ

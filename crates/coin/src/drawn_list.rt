@@ -9,7 +9,7 @@ use crate::Coin;
 use crate::shares::{ElectError, Share, examine, member_of};
 
 /// The coin of drawn numbers.
-#[derive(Clone, Copy)]
+#[derive(Clone, Copy, Debug, PartialEq, Eq)]
 pub struct DrawnList;
 
 // The share of the lower-numbered member, the first where both are one's.
@@ -28,11 +28,7 @@ fn lowest_of(shares: &[Share]) -> Share
     requires { 0 < length shares.now }
     ensures { result ≡ lowest (slice_index_or shares.now 0 nobody) shares.now }
 {
-    let mut best = shares[0];
-    for share in shares {
-        best = lower_of(best, *share);
-    }
-    best
+    shares.iter().copied().fold(shares[0], lower_of)
 }
 
 impl Coin for DrawnList {

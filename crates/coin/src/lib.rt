@@ -14,7 +14,7 @@ mod tests;
 
 pub use drawn_list::DrawnList;
 pub use polynomial::{Polynomial, dealings_are_sound, dealt};
-pub use shares::{ElectError, Share};
+pub use shares::{ElectError, Share, is_member, share_count};
 
 /// A rule that elects a member from the shares of one view.
 pub trait Coin {

@@ -1,7 +1,7 @@
 // The polynomial coin: a view's values lie on one polynomial of degree at most f modulo 257, and its value at 0 elects the winner.
 ghost use Rattle.std.specs.Prelude.{◌≡◌, ◌+◌, ◌*◌, ◌%◌, ◌<◌, ◌≤◌, ◌≢◌, length, slice_index};
 ghost use Rattle.coin.specs.Shares.{Apart};
-ghost use Rattle.coin.specs.Polynomials.{Evaluated, Deals, DealingsAreSound, Sound, winner_of};
+ghost use Rattle.coin.specs.Polynomials.{eval, Deals, DealingsAreSound, Sound, winner_of};
 ghost use Rattle.coin.specs.Interpolation.{inverses, Inverse, reduce, from_slope, at_zero, elected_by};
 ghost use Rattle.coin.specs.Members.{someone, member_among};
 ghost use Rattle.coin.specs.Newton;
@@ -38,7 +38,7 @@ const INVERSES: [u16; 256] = [
 ];
 
 /// The coin of shared polynomials.
-#[derive(Clone, Copy)]
+#[derive(Clone, Copy, Debug, PartialEq, Eq)]
 pub struct Polynomial;
 
 // The inverse of place + 1.
@@ -85,11 +85,10 @@ fn value_at_zero(points: &mut [Share]) -> u32
     ensures is { result ≡ at_zero (length points.old) points.old }
     ensures below { result < 257 }
 {
-    if points.is_empty() {
+    let [first, rest @ ..] = points else {
         return 0;
-    }
-    let first = points[0];
-    let rest = &mut points[1..];
+    };
+    let first = *first;
     for other in rest.iter_mut() {
         *other = reduced(first, *other);
     }
@@ -107,7 +106,7 @@ fn secret_of(shares: &[Share]) -> u32
         member: 0,
         value: 0,
     }; MOST_SHARES];
-    let used = &mut points[0..shares.len()];
+    let used = &mut points[..shares.len()];
     used.copy_from_slice(shares);
     value_at_zero(used)
 }
@@ -144,20 +143,14 @@ fn next_value(constant: u16, x: u8, higher: u16) -> u16
     ((constant as u32 + x as u32 * higher as u32) % MODULUS) as u16
 }
 
-// The value at x of the polynomial with these coefficients, the constant first; none where one is no residue.
-fn value_at(coefficients: &[u16], x: u8) -> Option<u16>
-    ensures { Evaluated coefficients.now x result }
+// The value at x modulo 257 of the polynomial with these coefficients, the constant first.
+fn value_at(coefficients: &[u16], x: u8) -> u16
+    ensures { result ≡ eval coefficients.now x % 257 }
 {
-    match coefficients {
-        [] => Some(0),
-        [constant, rest @ ..] => {
-            if *constant > GREATEST {
-                return None;
-            }
-            let higher = value_at(rest, x)?;
-            Some(next_value(*constant, x, higher))
-        }
-    }
+    coefficients
+        .iter()
+        .rev()
+        .fold(0, |higher, constant| next_value(*constant, x, higher))
 }
 
 /// A member's value in one view, dealt by the polynomial with these coefficients, the constant first. None where they are not
@@ -165,8 +158,9 @@ fn value_at(coefficients: &[u16], x: u8) -> Option<u16>
 pub fn dealt(n: u8, coefficients: &[u16], member: u8) -> Option<u16>
     ensures { Deals n coefficients.now member result }
 {
-    if coefficients.len() == share_count(n) && is_member(n, member) {
-        value_at(coefficients, member)
+    let residues = coefficients.iter().all(|value| *value <= GREATEST);
+    if residues && coefficients.len() == share_count(n) as usize && is_member(n, member) {
+        Some(value_at(coefficients, member))
     } else {
         None
     }

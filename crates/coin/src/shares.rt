@@ -1,28 +1,12 @@
 // Shares, and what is wrong with those that elect nobody.
 ghost use Rattle.std.specs.Prelude.{◌≡◌, ◌<◌, MatchResult};
-ghost use Rattle.coin.specs.Shares.{size, Tells, Member, Other, Within, AllKnown, Apart, AllWithin, WellFormed, Refused, refusal, member_of};
+ghost use Rattle.coin.specs.Shares.{size, Tells, Member, AllKnown, Apart, AllWithin, WellFormed, Refused, refusal, is_member, member_of};
 
 /// What one member holds of a view's coin.
-#[derive(Clone, Copy)]
+#[derive(Clone, Copy, PartialEq, Eq, Debug)]
 pub struct Share {
     pub member: u8,
     pub value: u16,
-}
-
-impl Share {
-    // Whether the value is at most the greatest.
-    fn is_within(self, greatest: u16) -> bool
-        ensures { Tells result (Within greatest self) }
-    {
-        self.value <= greatest
-    }
-
-    // Whether this is a share of another member than `first`.
-    fn is_other(self, first: Share) -> bool
-        ensures { Tells result (Other first self) }
-    {
-        self.member != first.member
-    }
 }
 
 /// Why shares elect nobody, in the order of the tests.
@@ -49,29 +33,25 @@ impl ElectError {
     }
 }
 
-// How many shares elect: f + 1.
-pub(crate) fn share_count(n: u8) -> usize
+/// How many shares elect: f + 1.
+pub fn share_count(n: u8) -> u8
     ensures { result ≡ size n }
 {
-    n.saturating_sub(1) as usize / 3 + 1
+    n.saturating_sub(1) / 3 + 1
 }
 
-// Whether the number is a member's: one of 1 to n.
-pub(crate) fn is_member(n: u8, member: u8) -> bool
-    ensures { Tells result (Member n member) }
+/// Whether the number is a member's: one of 1 to n.
+pub fn is_member(n: u8, member: u8) -> bool
+    ensures tells { Tells result (Member n member) }
+    ensures is { result ≡ is_member n member }
 {
-    1 <= member && member <= n
+    0 < member && member <= n
 }
 
 fn members_known(n: u8, shares: &[Share]) -> bool
     ensures { Tells result (AllKnown n shares.now) }
 {
-    for share in shares {
-        if !is_member(n, share.member) {
-            return false;
-        }
-    }
-    true
+    shares.iter().all(|share| is_member(n, share.member))
 }
 
 fn members_apart(shares: &[Share]) -> bool
@@ -80,12 +60,7 @@ fn members_apart(shares: &[Share]) -> bool
     match shares {
         [] => true,
         [first, rest @ ..] => {
-            for other in rest {
-                if !other.is_other(*first) {
-                    return false;
-                }
-            }
-            members_apart(rest)
+            rest.iter().all(|other| other.member != first.member) && members_apart(rest)
         }
     }
 }
@@ -93,19 +68,14 @@ fn members_apart(shares: &[Share]) -> bool
 fn values_within(greatest: u16, shares: &[Share]) -> bool
     ensures { Tells result (AllWithin greatest shares.now) }
 {
-    for share in shares {
-        if !share.is_within(greatest) {
-            return false;
-        }
-    }
-    true
+    shares.iter().all(|share| share.value <= greatest)
 }
 
 // Whether the shares are well formed, or else what is first wrong with them.
 pub(crate) fn examine(n: u8, greatest: u16, shares: &[Share]) -> Result<(), ElectError>
     ensures { MatchResult result (λ _. WellFormed n greatest shares.now) (λ e. Refused n greatest shares.now e) }
 {
-    if shares.len() != share_count(n) {
+    if shares.len() != share_count(n) as usize {
         return Err(ElectError::Count);
     }
     if !members_known(n, shares) {

@@ -1,14 +1,19 @@
 -- A certificate that is written field after field: statement, count, entries.
-use Rattle.std.proofs.Common.{◌≡◌, ℕ, ◌+◌, ◌≤◌, cond, List, [], ◌∷◌, ◌++◌, length, Option, sym, ap, ◌∙◌, subst, arith}
+use Rattle.std.proofs.Common.{◌≡◌, ℕ, ◌+◌, ◌≤◌, cond, List, [], ◌∷◌, ◌++◌, length, drop, Option, sym, ap, ◌∙◌, subst, arith}
 use Rattle.std.proofs.lemmas.List.{length-append}
+use Rattle.std.proofs.lemmas.Bool.{and_from, le-leb}
 use Rattle.blocks.specs.Layout.{fits, pasted}
 use Rattle.blocks.specs.Statements.{statement_bytes}
 use Rattle.tally.specs.Walk.{kept_alike}
 use Rattle.collect.specs.declared.items.KeptVote.{KeptVote}
 use Rattle.collect.specs.Items.{vote_alike, vote_tail, built}
-use Rattle.collect.specs.Build.{built_bytes, certificate_of}
+use Rattle.collect.specs.Build.{places_most, written_at_start, built_bytes, certificate_of}
 use Rattle.collect.proofs.Entries.{as_many}
 use Rattle.collect.proofs.Pasting.{Left, two_fields}
+
+-- where each place has a number and there is room, what is written at a buffer's start is laid over it
+pub written_whole : {T X : Type 0} (places : List (Option T)) (out xs : List X) → length places ≤ places_most → length xs ≤ length out → written_at_start places out xs ≡ xs ++ drop (length xs) out
+written_whole places out xs numbers room = ap (λ b. cond b (xs ++ drop (length xs) out) out) (and_from _ _ (le-leb (length places) places_most numbers) (le-leb (length xs) (length out) room))
 
 module _ (width : ℕ) (vote : KeptVote) (places : List (Option KeptVote)) (s : List ℕ) (is : s ≡ statement_bytes vote.statement) where
   abbrev entries : List ℕ

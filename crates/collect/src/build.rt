@@ -10,7 +10,7 @@ ghost use Rattle.collect.specs.Build.{places_most, tail_most, built_bytes, certi
 use crate::items::{KeptShare, KeptTimeout, KeptVote};
 use attest::attestor::TAG_ROOM;
 use blocks::layout::put;
-use tally::{Item, next_alike};
+use tally::{Item, count_alike, kept_alike};
 
 // The most places: a member's number is its place + 1 and has one byte.
 pub(crate) const PLACES_MOST: usize = 255;
@@ -94,20 +94,6 @@ impl Entered for KeptShare {
     }
 }
 
-// How many places keep an item alike to this one.
-pub(crate) fn count_alike<T: Item>(places: &[Option<T>], item: &T) -> usize
-    ensures count { result ≡ length (kept_alike T.Item.alike item.now places.now 0) }
-    ensures most { result ≤ length places.now }
-{
-    let mut count = 0;
-    let mut from = 0;
-    while let Some((place, _)) = next_alike(places, from, item) {
-        count += 1;
-        from = place + 1;
-    }
-    count
-}
-
 // The number of the member that has the place.
 pub(crate) fn number_of(place: usize) -> u8
     requires { place < places_most }
@@ -116,37 +102,32 @@ pub(crate) fn number_of(place: usize) -> u8
     (place + 1) as u8
 }
 
-// Writes the entry of an item that was found in its place to a place of the buffer, and says where it ends.
-fn put_entry<T: Entered>(found: (usize, T), width: usize, out: &mut [u8], at: usize) -> usize
-    requires number { found.0 < places_most }
-    requires room { at + (1 + length (T.Entered.tail width found.1)) ≤ length out.old }
-    ensures bytes { out.new ≡ pasted out.old at ((found.0 + 1) ∷ T.Entered.tail width found.1) }
-    ensures end { result ≡ at + (1 + length (T.Entered.tail width found.1)) }
+// Writes the entry of an item that a place keeps to a place of the buffer, and says where it ends.
+fn put_entry<T: Entered>(place: usize, kept: &T, width: usize, out: &mut [u8], at: usize) -> usize
+    requires number { place < places_most }
+    requires room { at + (1 + length (T.Entered.tail width kept.now)) ≤ length out.old }
+    ensures bytes { out.new ≡ pasted out.old at ((place + 1) ∷ T.Entered.tail width kept.now) }
+    ensures end { result ≡ at + (1 + length (T.Entered.tail width kept.now)) }
 {
-    let end = put(out, at, &[number_of(found.0)]);
-    found.1.put_tail(width, out, end)
+    let end = put(out, at, &[number_of(place)]);
+    kept.put_tail(width, out, end)
 }
 
 // The bytes of the entries of the kept items that are alike to this one.
 fn entries_length<T: Entered>(places: &[Option<T>], item: &T, width: usize) -> usize
     requires { length places.now ≤ places_most }
-    ensures value { result ≡ length (built_bytes T.Item.alike (T.Entered.tail width) item.now places.now) }
-    ensures most { result ≤ places_most * (1 + tail_most) }
+    ensures { result ≡ length (built_bytes T.Item.alike (T.Entered.tail width) item.now places.now) }
 {
-    let mut bytes = 0;
-    let mut from = 0;
-    while let Some(found) = next_alike(places, from, item) {
-        bytes += 1 + found.1.tail_length(width);
-        from = found.0 + 1;
-    }
-    bytes
+    kept_alike(places, item)
+        .map(|(_, kept)| 1 + kept.tail_length(width))
+        .sum()
 }
 
 // Whether so many bytes have room at a place.
 fn has_room(out: &[u8], at: usize, bytes: usize) -> bool
     ensures { result ≡ nat_le (at + bytes) (length out.now) }
 {
-    bytes <= out.len() && at <= out.len() - bytes
+    out.get(at..).is_some_and(|rest| bytes <= rest.len())
 }
 
 // Writes the entries at a place where they have room, and says where they end.
@@ -163,10 +144,8 @@ fn enter_all<T: Entered>(
     ensures bytes { out.new ≡ pasted out.old at (built_bytes T.Item.alike (T.Entered.tail width) item.now places.now) }
 {
     let mut end = at;
-    let mut from = 0;
-    while let Some(found) = next_alike(places, from, item) {
-        end = put_entry(found, width, out, end);
-        from = found.0 + 1;
+    for (place, kept) in kept_alike(places, item) {
+        end = put_entry(place, kept, width, out, end);
     }
     end
 }
@@ -193,35 +172,6 @@ pub fn write_entries<T: Entered>(
     Some(enter_all(places, item, width, out, at))
 }
 
-// The bytes of the certificate of the kept votes that say the same as this one.
-fn certificate_length(places: &[Option<KeptVote>], vote: &KeptVote, width: usize) -> usize
-    requires { length places.now ≤ places_most }
-    ensures { result ≡ length (certificate_of width vote.now places.now) }
-{
-    let statement = vote.statement.bytes();
-    statement.len() + 1 + entries_length(places, vote, width)
-}
-
-// How many entries the certificate has, as its byte.
-fn count_byte(places: &[Option<KeptVote>], vote: &KeptVote) -> u8
-    requires { length places.now ≤ places_most }
-    ensures { result ≡ length (kept_alike vote_alike vote.now places.now 0) }
-{
-    count_alike(places, vote) as u8
-}
-
-// Writes the certificate to the start of a buffer that has room for it, and says where it ends.
-fn certify(places: &[Option<KeptVote>], vote: &KeptVote, width: usize, out: &mut [u8]) -> usize
-    requires numbers { length places.now ≤ places_most }
-    requires room { length (certificate_of width vote.now places.now) ≤ length out.old }
-    ensures end { result ≡ length (certificate_of width vote.now places.now) }
-    ensures bytes { out.new ≡ overlay out.old (certificate_of width vote.now places.now) }
-{
-    let at = put(out, 0, &vote.statement.bytes());
-    let at = put(out, at, &[count_byte(places, vote)]);
-    enter_all(places, vote, width, out, at)
-}
-
 // Writes the certificate of the kept votes that say the same as this one to the start of the buffer, and says how long it is.
 // Where it has no room, or there are more places than members have numbers, nothing is written.
 pub fn write_certificate(
@@ -233,8 +183,15 @@ pub fn write_certificate(
     ensures end { result ≡ count_at_start places.now out.old (certificate_of width vote.now places.now) }
     ensures bytes { out.new ≡ written_at_start places.now out.old (certificate_of width vote.now places.now) }
 {
-    if places.len() > PLACES_MOST || certificate_length(places, vote, width) > out.len() {
+    if places.len() > PLACES_MOST {
         return None;
     }
-    Some(certify(places, vote, width, out))
+    let statement = vote.statement.bytes();
+    let bytes = entries_length(places, vote, width);
+    if !has_room(out, statement.len() + 1, bytes) {
+        return None;
+    }
+    let at = put(out, 0, &statement);
+    let at = put(out, at, &[count_alike(places, vote) as u8]);
+    Some(enter_all(places, vote, width, out, at))
 }

@@ -2,10 +2,10 @@
 ghost use Rattle.std.specs.Prelude.{◌≡◌, ◌<◌, ◌≤◌, ◌++◌, length, drop};
 ghost use Rattle.collect.specs.Build.{places_most, share_at, kept_shares, count_at_start, written_at_start};
 
-use crate::build::{PLACES_MOST, count_alike, number_of};
+use crate::build::{PLACES_MOST, number_of};
 use crate::items::KeptShare;
 use coin::Share;
-use tally::next_alike;
+use tally::{count_alike, kept_alike};
 
 // The share that a place keeps, as the coin takes it.
 fn share_at(place: usize, kept: &KeptShare) -> Share
@@ -18,28 +18,15 @@ fn share_at(place: usize, kept: &KeptShare) -> Share
     }
 }
 
-// How many kept shares are of this share's view.
-fn count_shares(places: &[Option<KeptShare>], share: &KeptShare) -> usize
-    ensures { result ≡ length (kept_shares share.now places.now) }
-{
-    count_alike(places, share)
-}
-
-// Writes the kept shares of this share's view to the start of `out`, which has room for them, and says how many they are.
-fn gather(places: &[Option<KeptShare>], share: &KeptShare, out: &mut [Share]) -> usize
+// Writes the kept shares of this share's view to the start of `out`, which has room for them.
+fn gather(places: &[Option<KeptShare>], share: &KeptShare, out: &mut [Share])
     requires numbers { length places.now ≤ places_most }
     requires room { length (kept_shares share.now places.now) ≤ length out.old }
-    ensures count { result ≡ length (kept_shares share.now places.now) }
-    ensures shares { out.new ≡ kept_shares share.now places.now ++ drop (length (kept_shares share.now places.now)) out.old }
+    ensures { out.new ≡ kept_shares share.now places.now ++ drop (length (kept_shares share.now places.now)) out.old }
 {
-    let mut count = 0;
-    let mut from = 0;
-    while let Some((place, kept)) = next_alike(places, from, share) {
-        out[count] = share_at(place, &kept);
-        count += 1;
-        from = place + 1;
+    for (count, (place, kept)) in kept_alike(places, share).enumerate() {
+        out[count] = share_at(place, kept);
     }
-    count
 }
 
 // Writes the kept shares of this share's view to the start of `out`, by rising member, and says how many they are. Where they
@@ -52,8 +39,10 @@ pub fn kept_shares(
     ensures count { result ≡ count_at_start places.now out.old (kept_shares share.now places.now) }
     ensures shares { out.new ≡ written_at_start places.now out.old (kept_shares share.now places.now) }
 {
-    if places.len() > PLACES_MOST || count_shares(places, share) > out.len() {
+    let count = count_alike(places, share);
+    if places.len() > PLACES_MOST || count > out.len() {
         return None;
     }
-    Some(gather(places, share, out))
+    gather(places, share, out);
+    Some(count)
 }

@@ -1,13 +1,13 @@
 -- What a hasher has absorbed after more bytes.
-use Rattle.std.proofs.Common.{◌≡◌, ℕ, ◌+◌, ◌-◌, ◌*◌, ◌/◌, ◌%◌, ◌^◌, ◌<◌, List, [], ◌++◌, length, take, drop, sym, refl, ap, ◌∙◌, subst, arith}
-use Rattle.std.specs.List.{between}
-use Rattle.std.proofs.lemmas.List.{append-nil, append_assoc, length-append, length-drop, length-take-le, take-append-drop, take_at, take_rest, drop_all}
+use Rattle.std.proofs.Common.{◌≡◌, ℕ, ◌+◌, ◌-◌, ◌*◌, ◌/◌, ◌%◌, ◌^◌, ◌<◌, List, [], ◌++◌, length, get_or, take, drop, fold, sym, refl, ap, ◌∙◌, subst, arith}
+use Rattle.std.specs.Simd.{first_chunks}
+use Rattle.std.proofs.lemmas.List.{append-nil, append_assoc, length-append, length-drop, length-take-le, take-append-drop, take_at, drop_all}
 use Rattle.digest.specs.declared.hasher.Sha256.{Sha256}
 use Rattle.digest.specs.Words.{initial}
 use Rattle.digest.specs.Compression.{compression}
 use Rattle.digest.specs.Digest.{chained}
 use Rattle.digest.specs.Streaming.{Absorbed, Absorbs}
-use Rattle.digest.proofs.Chains.{drop_past, one_chained, resumed}
+use Rattle.digest.proofs.Chains.{drop_past, joined, one_chained, resumed, chained_blocks, rejoined}
 
 -- the bytes that a hasher holds in `partial`, followed by more
 abbrev pub held : Sha256 → List ℕ → List ℕ
@@ -105,7 +105,7 @@ took_fill h part block s fits full blockE sE =
       count = refl;
     }
 
-pub took_blocks : (h : Sha256) (blocks s : List ℕ) → h.length % 64 ≡ 0 → length blocks % 64 ≡ 0
+took_blocks : (h : Sha256) (blocks s : List ℕ) → h.length % 64 ≡ 0 → length blocks % 64 ≡ 0
     → s ≡ chained h.state blocks (length blocks / 64)
     → Took h blocks (record { state = s; partial = h.partial; length = (h.length + length blocks) % 2 ^ 64 })
 took_blocks h blocks s none whole sE =
@@ -118,19 +118,26 @@ took_blocks h blocks s none whole sE =
       count = refl;
     }
 
+pub absorbs_blocks : (h : Sha256) (bs : List (List ℕ)) (blocks s : List ℕ) → h.length % 64 ≡ 0
+    → ((i : ℕ) → i < length bs → length (get_or bs i []) ≡ 64) → blocks ≡ joined bs → length blocks ≡ length bs * 64 → s ≡ fold compression h.state bs
+    → Absorbs h (joined bs) (record { state = s; partial = h.partial; length = (h.length + length blocks) % 2 ^ 64 })
+absorbs_blocks h bs blocks s none size is long sE =
+    let count : length bs ≡ length blocks / 64 = omega arith in
+    let whole = sE ∙ chained_blocks h.state bs size ∙ ap (λ (x : List ℕ). chained h.state x (length bs)) (sym is) ∙ ap (chained h.state blocks) count in
+    let now : Sha256 = record { state = s; partial = h.partial; length = (h.length + length blocks) % 2 ^ 64 } in
+    subst (λ (x : List ℕ). Absorbs h x now) is (absorbs h blocks now (took_blocks h blocks s none (omega arith) whole))
+
 absorbs_both : (h i j : Sha256) (a b : List ℕ) → Absorbs h a i → Absorbs i b j → Absorbs h (a ++ b) j
 absorbs_both h i j a b one two = record {
   first = λ had. two.next a (one.first had);
   next = λ bytes had. subst (Absorbed j) (append_assoc bytes a b) (two.next (bytes ++ a) (one.next bytes had));
 }
 
-cut : (xs : List ℕ) (k : ℕ) → between 0 k xs ++ between k (length xs) xs ≡ xs
-cut xs k = ap (λ (i : ℕ). take i xs ++ between k (length xs) xs) (omega arith) ∙ ap (λ (x : List ℕ). take k xs ++ x) (take_rest xs k) ∙ take-append-drop k xs
-
--- bytes that are absorbed in three parts, cut at `room` and then at `whole`
-pub absorbs_parts : (h i j k : Sha256) (more rest : List ℕ) (room whole : ℕ) → rest ≡ between room (length more) more → Absorbs h (between 0 room more) i
-    → Absorbs i (between 0 whole rest) j → Absorbs j (between whole (length rest) rest) k → Absorbs h more k
-absorbs_parts h i j k more rest room whole restE one two three =
-    let later : Absorbs i rest k = subst (λ (x : List ℕ). Absorbs i x k) (cut rest whole) (absorbs_both i j k _ _ two three) in
-    let all = absorbs_both h i k (between 0 room more) rest one later in
-    subst (λ (x : List ℕ). Absorbs h x k) (ap (λ (x : List ℕ). between 0 room more ++ x) restE ∙ cut more room) all
+-- bytes that are absorbed in three parts: those up to `room`, then whole blocks, then what is left
+pub absorbs_parts : (h i j k : Sha256) (more part rest last : List ℕ) (blocks : List (List ℕ)) (room n : ℕ) → part ≡ take room more → rest ≡ drop room more
+    → blocks ≡ first_chunks 64 n rest → last ≡ drop (n * 64) rest → Absorbs h part i → Absorbs i (joined blocks) j → Absorbs j last k → Absorbs h more k
+absorbs_parts h i j k more part rest last blocks room n partE restE blocksE lastE one two three =
+    let later = absorbs_both i j k (joined blocks) last two three in
+    let is : joined blocks ++ last ≡ rest = ap (λ (x : List (List ℕ)). joined x ++ last) blocksE ∙ ap (λ (x : List ℕ). joined (first_chunks 64 n rest) ++ x) lastE ∙ rejoined n rest in
+    let all = absorbs_both h i k part rest one (subst (λ (x : List ℕ). Absorbs i x k) is later) in
+    subst (λ (x : List ℕ). Absorbs h x k) (ap (λ (x : List ℕ). x ++ rest) partE ∙ ap (λ (x : List ℕ). take room more ++ x) restE ∙ take-append-drop room more) all

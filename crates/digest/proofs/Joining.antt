@@ -1,26 +1,22 @@
 -- Words that are written one after the other.
-use Rattle.std.proofs.Common.{◌≡◌, ℕ, ◌+◌, ◌-◌, ◌*◌, ◌<◌, List, [], ◌++◌, length, get_or, take, sym, ap, ◌∙◌, arith, rules}
-use borrow.Rule.Slice.PartMut.{put_mid}
+use Rattle.std.proofs.Common.{◌≡◌, ℕ, suc, ◌<◌, List, [], ◌∷◌, ◌++◌, length, get_or, refl, ap, ◌∙◌, arith}
+use Rattle.std.specs.Array.{IsMapOf}
+use Rattle.std.specs.Fn.{Called}
+use denote.Param.Members.{Mut}
 use Rattle.std.specs.List.{flat_map}
-use Rattle.std.proofs.lemmas.List.{take_all, take_more, flat_map_more, places}
-use Rattle.std.proofs.lemmas.Slice.{take-put_mid}
-use Rattle.digest.specs.Bytes.{bytes32}
 
-pub joined_step : (state out last four : List ℕ) (i : ℕ) → i < length state → length state ≡ 8 → length out ≡ 32
-    → take (4 * i) out ≡ flat_map bytes32 (take i state) → four ≡ bytes32 (get_or state i 0) → last ≡ four
-    → (length (put_mid (4 * i) (4 * i + 4 - 4 * i) out last) ≡ 32)
-    × (take (4 * (i + 1)) (put_mid (4 * i) (4 * i + 4 - 4 * i) out last) ≡ flat_map bytes32 (take (i + 1) state))
-joined_step state out last four i within eight long e fourE lastE =
-    let is = lastE ∙ fourE in
-    let size : length last ≡ 4 = ap length is in (
-      search (rules, places),
-      take-put_mid (4 * i) (4 * i + 4 - 4 * i) out last (4 * (i + 1)) (omega arith) (omega arith)
-          ∙ ap (λ (x : List ℕ). x ++ last) e ∙ ap (λ (x : List ℕ). flat_map bytes32 (take i state) ++ x) is
-          ∙ flat_map_more bytes32 [] (take i state) (get_or state i 0)
-          ∙ ap (flat_map bytes32) (sym (take_more state i 0 within)),
-    )
+joined_same : (f : ℕ → List ℕ) (xs : List ℕ) (ys : List (List ℕ)) → length ys ≡ length xs
+    → ((i : ℕ) → i < length xs → get_or ys i [] ≡ f (get_or xs i 0)) → flat_map (λ (y : List ℕ). y) ys ≡ flat_map f xs
+joined_same f [] [] long same = refl
+joined_same f [] (y ∷ ys) long same = cc
+joined_same f (x ∷ xs) [] long same = cc
+joined_same f (x ∷ xs) (y ∷ ys) long same =
+    ap (λ (z : List ℕ). z ++ flat_map (λ (y : List ℕ). y) ys) (same 0 (omega arith))
+    ∙ ap (λ (z : List ℕ). f x ++ z) (joined_same f xs ys (omega arith) (λ i h. same (suc i) (omega arith)))
 
-pub joined_all : (state out : List ℕ) (i : ℕ) → i ≡ 8 → length state ≡ 8 → length out ≡ 32
-    → take (4 * i) out ≡ flat_map bytes32 (take i state) → out ≡ flat_map bytes32 state
-joined_all state out i end eight long e =
-    sym (take_all (4 * i) out (omega arith)) ∙ e ∙ ap (flat_map bytes32) (take_all i state (omega arith))
+-- lists that a closure gave of each element, one after the other
+pub joined_map : {F : Type 0} (g : Mut F (ℕ × Unit {0}) (List ℕ)) (c : F) (f : ℕ → List ℕ) (xs : List ℕ) (ys : List (List ℕ)) (n : ℕ) → IsMapOf g c xs ys n
+    → length xs ≡ n → ((p q : F) (x : ℕ) (y : List ℕ) → Called g p (x, tt) y q → y ≡ f x) → flat_map (λ (y : List ℕ). y) ys ≡ flat_map f xs
+joined_map g c f xs ys n made long gives =
+    joined_same f xs ys (omega arith)
+    (λ i h. let call = made.at i 0 [] (omega arith) in gives call.0 call.1 (get_or xs i 0) (get_or ys i []) call.2)

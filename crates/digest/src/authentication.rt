@@ -20,8 +20,7 @@ fn key_block(key: &[u8]) -> [u8; 64]
     if key.len() <= 64 {
         filled_block(key)
     } else {
-        let short = sha256(key);
-        filled_block(&short)
+        filled_block(&sha256(key))
     }
 }
 
@@ -49,8 +48,8 @@ fn nested_digest(block: [u8; 64], text: &[u8]) -> [u8; 32]
 fn masked_block(mut block: [u8; 64], mask: u8) -> [u8; 64]
     ensures { result ≡ map (masked mask) block }
 {
-    for i in 0..64 {
-        block[i] = block[i] ^ mask;
+    for byte in &mut block {
+        *byte ^= mask;
     }
     block
 }

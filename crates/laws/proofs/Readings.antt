@@ -2,7 +2,7 @@
 use Rattle.std.proofs.Common.{◌≡◌, ℕ, ◌+◌, ◌<◌, Bool, true, false, cond, ◌&&◌, eqb, ltb, leb, List, length, get_or, take, drop, IfSome, Some, None, Option, refl, subst, arith}
 use Rattle.std.specs.Option.{option_map}
 use Rattle.std.proofs.lemmas.Bool.{cond_both, and_parts, eqb-true}
-use Rattle.coin.specs.Shares.{size}
+use Rattle.coin.specs.Shares.{is_member, size}
 use Rattle.digest.specs.Bytes.{number16, number32}
 use Rattle.blocks.specs.declared.head.Head.{Head}
 use Rattle.blocks.specs.declared.rank.Kind.TheVariants.{Regular, Fallback}
@@ -13,7 +13,7 @@ use Rattle.blocks.specs.Ranks.{view}
 use Rattle.blocks.specs.Statements.{height_fits, read_statement}
 use Rattle.wire.specs.declared.form.Form.{Form}
 use Rattle.wire.specs.Certificates.{CertificatePart, read_certificate}
-use Rattle.wire.specs.Messages.{BlockPart, Text, proposal, vote, timeout, timeout_certificate, certificate, share, coin_certificate, block_headed, read_block, proposal_of, read_proposal, vote_saying, read_vote, timeout_with, read_timeout, read_timeout_certificate, read_sole, read_share, read_coin_certificate, by_kind, read_message, is_member, gathered_formed, gathered}
+use Rattle.wire.specs.Messages.{BlockPart, Text, proposal, vote, timeout, timeout_certificate, certificate, share, coin_certificate, block_headed, read_block, proposal_of, read_proposal, vote_saying, read_vote, timeout_with, read_timeout, read_timeout_certificate, read_sole, read_share, read_coin_certificate, by_kind, read_message, gathered_formed, gathered}
 use Rattle.wire.specs.Quorums.{quorum}
 use Rattle.member.specs.See.{is_fallback}
 

@@ -1,38 +1,34 @@
 -- The lookup, place by place.
-use Rattle.std.proofs.Common.{◌≡◌, ℕ, zero, suc, ◌+◌, ◌-◌, ◌<◌, ◌≤◌, min, true, false, List, length, get_or, take, is_some, IfSome, Some, sym, refl, ap, ◌∙◌, subst, ⊎_elim, arith}
+use Rattle.std.proofs.Common.{◌≡◌, ℕ, zero, suc, ◌+◌, ◌-◌, ◌<◌, ◌≤◌, min, true, false, cond, List, length, take, drop, is_some, IfSome, Some, sym, refl, ap, ◌∙◌, subst, inl, inr, ⊎_elim, arith}
+use Rattle.std.specs.List.{position, position_from}
 use Rattle.std.specs.Str.{bytes_eq}
 use Rattle.std.proofs.lemmas.Slice.Eq.{bytes_eq-Decides}
-use Rattle.std.proofs.lemmas.List.{get_or-take, get_or_default, length-take}
-use Rattle.std.proofs.lemmas.Bool.{cond_both, cases_eq, both_ways}
+use Rattle.std.proofs.lemmas.List.{drop_more, drop_all}
+use Rattle.std.proofs.lemmas.Bool.{cond_both, cases_eq, cases_lt, both_ways}
+use Rattle.std.proofs.lemmas.Iterator.Adapters.{position_from-zero}
 use Rattle.table.specs.declared.held.Held.{Held}
 use Rattle.table.specs.Places.{at, genesis, lookup, lookup_from}
 use Rattle.table.specs.Laws.{Found, Finds}
 use Rattle.table.proofs.Orders.{found_map}
 
--- a step of the loop over the first m places, which are those held
-module _ (t : List Held) (held : ℕ) (id : List ℕ) (m i : ℕ) (d : Held) (same : m ≡ min held (length t)) (less : i < length (take (m - 0) t)) where
-  within : i < min held (length t)
-  within = omega (arith, length-take (m - 0) t)
+-- the place of the first of n blocks from place i on that has the id
+looked_from : (t : List Held) (id : List ℕ) (n i : ℕ) → position_from (λ (b : Held). bytes_eq b.id id) i (take n (drop i t)) ≡ lookup_from (min n (length t - i)) t i id
+looked_from t id zero i =
+    let none : 0 ≡ min 0 (length t - i) = omega arith in
+    ap (λ m. lookup_from m t i id) none
+looked_from t id (suc n) i = elim (cases_lt i (length t)) [
+  | inl lt ↦
+      let more : min (suc n) (length t - i) ≡ suc (min n (length t - (i + 1))) = omega arith in
+      rw (drop_more t i genesis lt, more) (ap (λ o. cond (bytes_eq (at t i).id id) (Some i) o) (looked_from t id n (i + 1)))
+  | inr past ↦
+      let none : min (suc n) (length t - i) ≡ 0 = omega arith in
+      rw (drop_all i t past, none) refl
+]
 
-  left : min held (length t) - i ≡ suc (min held (length t) - (i + 1))
-  left = let lt = within in omega arith
-
-  read : get_or (take (m - 0) t) i d ≡ at t i
-  read =
-      let lt = within in
-      get_or-take (m - 0) t i d (omega arith) ∙ get_or_default t i d genesis (omega arith)
-
-  pub lookup_here : true ≡ bytes_eq (get_or (take (m - 0) t) i d).id id → lookup_from (min held (length t) - i) t i id ≡ Some i
-  lookup_here hit =
-      let e = left in
-      let h : bytes_eq (at t i).id id ≡ true = sym (hit ∙ ap (λ (b : Held). bytes_eq b.id id) read) in
-      rw (e, h)
-
-  pub lookup_on : false ≡ bytes_eq (get_or (take (m - 0) t) i d).id id → lookup_from (min held (length t) - i) t i id ≡ lookup_from (min held (length t) - (i + 1)) t (i + 1) id
-  lookup_on miss =
-      let e = left in
-      let h : bytes_eq (at t i).id id ≡ false = sym (miss ∙ ap (λ (b : Held). bytes_eq b.id id) read) in
-      rw (e, h)
+pub position_lookup : (t : List Held) (held : ℕ) (id : List ℕ) → position (λ (b : Held). bytes_eq b.id id) (take held t) ≡ lookup t held id
+position_lookup t held id =
+    let whole : length t - 0 ≡ length t = omega arith in
+    position_from-zero (λ (b : Held). bytes_eq b.id id) (take held t) ∙ (looked_from t id held 0 ∙ ap (λ m. lookup_from (min held m) t 0 id) whole)
 
 -- of n places from i on, j is the first whose block has the id
 record FirstFrom (t : List Held) (id : List ℕ) (n i j : ℕ) : Type 0 where

@@ -22,7 +22,7 @@ pub fn ancestor(table: &[Held], a: usize, round: Round) -> Option<usize>
     ensures { result ≡ ancestor table.now a round.0 }
 {
     let mut at = a;
-    while block_at(table, at).head.round.0 != round.0 {
+    while block_at(table, at).head.round != round {
         if at == 0 {
             return None;
         }

@@ -12,9 +12,9 @@ pub fn one_view(table: &[Held], i: usize) -> bool
     ensures { result ≡ one_view table.now i }
 {
     let parent = parent_of(table, i);
-    let view = block_at(table, i).head.view.0;
-    view == block_at(table, parent).head.view.0
-        && view == block_at(table, parent_of(table, parent)).head.view.0
+    let view = block_at(table, i).head.view;
+    view == block_at(table, parent).head.view
+        && view == block_at(table, parent_of(table, parent)).head.view
 }
 
 // The last committed place once the block at place i is to commit; none is a fork.

@@ -9,7 +9,7 @@ use blocks::limits::{ID_BYTES, PAYLOAD_MOST};
 use blocks::rank::{Kind, Rank, Round, View};
 use blocks::statement::Statement;
 
-#[derive(Clone, Copy)]
+#[derive(Clone, Copy, Debug, PartialEq, Eq)]
 pub struct Held {
     pub head: Head,
     pub id: [u8; 32],
@@ -53,7 +53,7 @@ impl Held {
     pub fn has_id(&self, id: &[u8; 32]) -> bool
         ensures { result ≡ bytes_eq self.now.id id.now }
     {
-        same_id(&self.id, id)
+        self.id == *id
     }
 
     pub fn rank(&self) -> Rank
@@ -67,12 +67,6 @@ impl Held {
         ensures { result.now ≡ payload_of self.now }
     {
         let length = PAYLOAD_MOST.min(self.head.payload as usize);
-        &self.payload[0..length]
+        &self.payload[..length]
     }
-}
-
-fn same_id(a: &[u8; 32], b: &[u8; 32]) -> bool
-    ensures { result ≡ bytes_eq a.now b.now }
-{
-    a == b
 }

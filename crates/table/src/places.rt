@@ -8,32 +8,14 @@ use super::held::{GENESIS, Held};
 pub fn find(table: &[Held], held: usize, id: &[u8; 32]) -> Option<usize>
     ensures { result ≡ lookup table.now held id.now }
 {
-    let places = &table[0..held.min(table.len())];
-    for (i, block) in places.iter().enumerate() {
-        if block.has_id(id) {
-            return Some(i);
-        }
-    }
-    None
-}
-
-// The block at a place of the table.
-fn read_at(table: &[Held], i: usize) -> &Held
-    requires { i < length table.now }
-    ensures { result.now ≡ at table.now i }
-{
-    &table[i]
+    table.iter().take(held).position(|block| block.has_id(id))
 }
 
 // The block at a place; genesis where there is no such place.
 pub fn block_at(table: &[Held], i: usize) -> &Held
     ensures { result.now ≡ at table.now i }
 {
-    if i < table.len() {
-        read_at(table, i)
-    } else {
-        &GENESIS
-    }
+    table.get(i).unwrap_or(&GENESIS)
 }
 
 // The place of the parent: a lower place, or else that of genesis.
@@ -50,9 +32,9 @@ pub fn hold(table: &mut [Held], place: usize, block: Held) -> bool
     ensures answer { result ≡ nat_lt place (length table.old) }
     ensures held { table.new ≡ (if result then slice_set table.old place block else table.old) }
 {
-    if place >= table.len() {
-        return false;
+    let there = place < table.len();
+    if there {
+        table[place] = block;
     }
-    table[place] = block;
-    true
+    there
 }

@@ -39,7 +39,7 @@ module _ {T : Type 0} (alike : T → T → Bool) (x : T) where
       cond_both (alike y x) (Some y) None (λ p. AllByRecursion P (met i p ++ rest)) (λ like. ((sym (at 0 i (omega arith)), like), keeps)) (λ _. keeps)
 
   walk_meets : (i k j : ℕ) (places : List (Option T)) (y : T) → i + k ≡ j → Kept places k y → alike y x ≡ true → Has (alike_in alike x i places) (j, y)
-  walk_meets i k j [] y at held like = absurd (let z : ◌≡◌ {A = ℕ} 0 1 = cc in omega arith)
+  walk_meets i k j [] y at held like = cc
   walk_meets i zero j (p ∷ places) y at held like =
       let rest = alike_in alike x (i + 1) places in
       let e : i ≡ j = omega arith in

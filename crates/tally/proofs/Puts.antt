@@ -15,14 +15,14 @@ abbrev answered : Bool → Bool → Bool → Result Bool Refused
 answered within up reached = cond within (cond up (Ok reached) (Err Held)) (Err NoPlace)
 
 pub refused_keeps : {X : Type 0} (within up reached : Bool) (why : Refused) (new old : X) → answered within up reached ≡ Err why → cond within (cond up new old) old ≡ old
-refused_keeps true true reached why new old e = absurd (let z : ◌≡◌ {A = ℕ} 0 1 = cc in omega arith)
+refused_keeps true true reached why new old e = cc
 refused_keeps true false reached why new old e = refl
 refused_keeps false up reached why new old e = refl
 
 pub reached_takes : {X : Type 0} (within up reached : Bool) (new old : X) → answered within up reached ≡ Ok true → (cond within (cond up new old) old ≡ new) × (reached ≡ true)
 reached_takes true true reached new old e = (refl, cc)
-reached_takes true false reached new old e = absurd (let z : ◌≡◌ {A = ℕ} 0 1 = cc in omega arith)
-reached_takes false up reached new old e = absurd (let z : ◌≡◌ {A = ℕ} 0 1 = cc in omega arith)
+reached_takes true false reached new old e = cc
+reached_takes false up reached new old e = cc
 
 module _ {T : Type 0} {above alike : T → T → Bool} (laws : Likeness above alike) where
   -- what becomes of the item y of a place

@@ -1,5 +1,5 @@
 -- The walk over alike items, one place after the other, and the weight of what it meets.
-use Rattle.std.proofs.Common.{◌≡◌, ℕ, zero, suc, ◌+◌, ◌<◌, ◌≤◌, Bool, true, false, List, [], ◌∷◌, ◌++◌, length, get_or, set, Some, None, sum_by, Option, sym, ap, ◌∙◌, arith}
+use Rattle.std.proofs.Common.{◌≡◌, ℕ, zero, suc, ◌+◌, ◌<◌, ◌≤◌, Bool, true, false, List, [], ◌∷◌, ◌++◌, length, get_or, set, Some, None, sum_by, Option, ap, ◌∙◌, arith}
 use Rattle.std.proofs.lemmas.List.{at_drop_more, at_drop_all}
 use Rattle.std.proofs.lemmas.List.Sums.{sum_by-append}
 use Rattle.std.proofs.lemmas.Bool.{cond-true, cond-false}
@@ -7,18 +7,15 @@ use Rattle.tally.specs.Walk.{met, if_alike, alike_in, kept_alike, weighed}
 
 module _ {T : Type 0} (alike : T → T → Bool) (x : T) where
   -- one place on: the walk meets what the place keeps, if that is alike
-  pub kept_more : (places : List (Option T)) (i : ℕ) (p q : Option T) → i < length places → p ≡ get_or places i p → if_alike alike x p ≡ q → kept_alike alike x places i ≡ met i q ++ kept_alike alike x places (i + 1)
-  kept_more places i p q within at is =
-      at_drop_more (alike_in alike x i) places i p within ∙ ap (λ (o : Option T). met i o ++ kept_alike alike x places (i + 1)) (ap (if_alike alike x) (sym at) ∙ is)
+  pub kept_more : (places : List (Option T)) (i : ℕ) (d q : Option T) → i < length places → if_alike alike x (get_or places i d) ≡ q → kept_alike alike x places i ≡ met i q ++ kept_alike alike x places (i + 1)
+  kept_more places i d q within is =
+      at_drop_more (alike_in alike x i) places i d within ∙ ap (λ (o : Option T). met i o ++ kept_alike alike x places (i + 1)) is
 
   pub alike_kept : (p : Option T) (y : T) → p ≡ Some y → alike y x ≡ true → if_alike alike x p ≡ Some y
   alike_kept p y is like = ap (if_alike alike x) is ∙ cond-true (alike y x) _ _ like
 
   pub unlike_kept : (p : Option T) (y : T) → p ≡ Some y → alike y x ≡ false → if_alike alike x p ≡ None
   unlike_kept p y is other = ap (if_alike alike x) is ∙ cond-false (alike y x) _ _ other
-
-  pub none_kept : (p : Option T) → p ≡ None → if_alike alike x p ≡ None
-  none_kept p is = ap (if_alike alike x) is
 
   pub kept_all : (places : List (Option T)) (i : ℕ) → length places ≤ i → kept_alike alike x places i ≡ []
   kept_all places i past = at_drop_all (alike_in alike x i) places i past

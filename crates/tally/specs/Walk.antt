@@ -28,8 +28,3 @@ module _ {T : Type 0} (alike : T → T → Bool) (x : T) where
 -- each place weighs 1, so that weights together are a count
 abbrev pub weight_of : ℕ → ℕ
 weight_of place = 1
-
--- a walk that begins with what was found and goes on behind its place, or that is at its end
-abbrev pub onward : {T : Type 0} → Option (ℕ × T) → (ℕ → List (ℕ × T)) → List (ℕ × T)
-onward None rest = []
-onward (Some found) rest = found ∷ rest (found.0 + 1)

@@ -11,4 +11,4 @@ mod tests;
 pub use laws::{tallies_are_lawful, third_reaches};
 pub use likeness::Item;
 pub use numbers::Numbered;
-pub use places::{Refused, Tally, clear, judge, keep, next_alike};
+pub use places::{Alike, Refused, Tally, clear, count_alike, judge, kept_alike};

@@ -4,7 +4,7 @@ ghost use Rattle.tally.specs.ByKey.{by_number};
 use super::likeness::Item;
 
 /// The simplest item: one that is only its rank, so that equal ones are alike.
-#[derive(Clone, Copy)]
+#[derive(Clone, Copy, PartialEq, Eq, PartialOrd, Ord)]
 pub struct Numbered {
     pub number: u32,
 }
@@ -17,10 +17,10 @@ impl Item for Numbered {
     ghost likeness = { by_number (λ x. x.number) };
 
     fn ranks_above(&self, other: &Numbered) -> bool {
-        other.number < self.number
+        other < self
     }
 
     fn is_like(&self, other: &Numbered) -> bool {
-        self.number == other.number
+        self == other
     }
 }

@@ -1,5 +1,8 @@
-ghost use Rattle.std.specs.Prelude.{◌≡◌, ◌+◌, ◌<◌, ◌≤◌, true, ◌++◌, length, replicate, IfSome, Some, None, slice_index_or, slice_set};
-ghost use Rattle.tally.specs.Walk.{met, kept_alike, weighed, weight_of, onward};
+ghost use Rattle.std.specs.Prelude.{◌≡◌, ◌<◌, ◌≤◌, true, length, replicate, All, Some, None, slice_index_or, slice_set};
+ghost use Rattle.std.specs.Iterator.{YieldsFirstBy, item_count};
+ghost use Rattle.std.specs.Option.{option_copied};
+ghost use Rattle.tally.specs.Alike.{still_alike};
+ghost use Rattle.tally.specs.Walk.{if_alike, kept_alike, weighed, weight_of};
 ghost use Rattle.tally.specs.Puts.{takes, put_to, judged};
 
 use super::likeness::Item;
@@ -14,40 +17,60 @@ pub enum Refused {
 }
 
 // What a place keeps, if that is alike to the item.
-fn alike_at<T: Item>(places: &[Option<T>], place: usize, item: &T) -> Option<T>
-    requires { place < length places.now }
-    ensures { kept_alike T.Item.alike item.now places.now place ≡ met place result ++ kept_alike T.Item.alike item.now places.now (place + 1) }
+fn if_alike<'a, T: Item>(place: &'a Option<T>, item: &T) -> Option<&'a T>
+    ensures { option_copied result ≡ if_alike T.Item.alike item.now place.now }
 {
-    match &places[place] {
-        Some(kept) if kept.is_like(item) => Some(*kept),
-        _ => None,
-    }
+    place.as_ref().filter(|kept| kept.is_like(item))
 }
 
-/// The first place at `from` or above that keeps an item alike to this one, and the item that it keeps.
-pub fn next_alike<T: Item>(places: &[Option<T>], from: usize, item: &T) -> Option<(usize, T)>
-    ensures walk { kept_alike T.Item.alike item.now places.now from ≡ onward result (kept_alike T.Item.alike item.now places.now) }
-    ensures within { IfSome result (λ found. (from ≤ found.0) × (found.0 < length places.now)) }
-{
-    for place in from..places.len() {
-        if let Some(kept) = alike_at(places, place, item) {
-            return Some((place, kept));
+/// The places that keep an item alike to a given one, each with the item that it keeps, by rising place.
+#[derive(Drop)]
+pub struct Alike<'a, T> {
+    pub places: &'a [Option<T>],
+    pub item: &'a T,
+    /// Where the walk goes on.
+    pub place: usize,
+}
+
+impl<'a, T: Item> Iterator for Alike<'a, T> {
+    ghost use Rattle.tally.specs.Alike.{place_and_item};
+
+    type Item = (usize, &'a T);
+
+    ghost next_gives = { YieldsFirstBy place_and_item (still_alike T.Item.alike) };
+
+    ghost remaining = { item_count (still_alike T.Item.alike) };
+
+    fn next(&mut self) -> Option<(usize, &'a T)> {
+        for place in self.place..self.places.len() {
+            if let Some(kept) = if_alike(&self.places[place], self.item) {
+                self.place = place + 1;
+                return Some((place, kept));
+            }
         }
+        None
     }
-    None
 }
 
-// How many places keep an item alike to this one.
-fn count_alike<T: Item>(places: &[Option<T>], item: &T) -> usize
-    ensures { result ≡ weighed T.Item.alike item.now weight_of places.now }
+/// The places that keep an item alike to this one.
+pub fn kept_alike<'a, T: Item>(places: &'a [Option<T>], item: &'a T) -> Alike<'a, T>
+    ensures walk { still_alike T.Item.alike result ≡ kept_alike T.Item.alike item.now places.now 0 }
+    ensures within { All (λ met. met.0 < length places.now) (still_alike T.Item.alike result) }
+    ensures most { length (still_alike T.Item.alike result) ≤ length places.now }
 {
-    let mut count = 0;
-    let mut from = 0;
-    while let Some((place, _)) = next_alike(places, from, item) {
-        count += 1;
-        from = place + 1;
+    Alike {
+        places,
+        item,
+        place: 0,
     }
-    count
+}
+
+/// How many places keep an item alike to this one.
+pub fn count_alike<T: Item>(places: &[Option<T>], item: &T) -> usize
+    ensures count { result ≡ length (kept_alike T.Item.alike item.now places.now 0) }
+    ensures most { result ≤ length places.now }
+{
+    kept_alike(places, item).count()
 }
 
 // How many places would keep an item alike to this one, were it put into a place that takes it.
@@ -63,10 +86,7 @@ fn count_with<T: Item>(places: &[Option<T>], place: usize, item: &T) -> usize
 fn takes_item<T: Item>(place: &Option<T>, item: &T) -> bool
     ensures { result ≡ takes T.Item.above place.now item.now }
 {
-    match place {
-        Some(kept) => item.ranks_above(kept),
-        None => true,
-    }
+    place.as_ref().is_none_or(|kept| item.ranks_above(kept))
 }
 
 /// What a put of the item would answer. Nothing is changed.
@@ -87,34 +107,17 @@ pub fn judge<T: Item>(
     Ok(count_with(places, place, item) == threshold)
 }
 
-/// Keeps the item in the place, unless that is refused, and says whether the kept items alike to it are then exactly as many as the threshold.
-pub fn keep<T: Item>(
-    places: &mut [Option<T>],
-    place: usize,
-    item: T,
-    threshold: usize,
-) -> Result<bool, Refused>
-    ensures answer { result ≡ judged T.Item.above T.Item.alike places.old place item threshold }
-    ensures kept { places.new ≡ put_to T.Item.above places.old place item }
-{
-    let reached = judge(places, place, &item, threshold)?;
-    places[place] = Some(item);
-    Ok(reached)
-}
-
 /// Empties every place.
 pub fn clear<T: Item>(places: &mut [Option<T>])
     ensures { places.new ≡ replicate (length places.old) None }
 {
-    for place in places.iter_mut() {
-        *place = None;
-    }
+    places.fill(None);
 }
 
 /// The lent places, one for each member.
 #[derive(Drop)]
 pub struct Tally<'a, T> {
-    places: &'a mut [Option<T>],
+    pub places: &'a mut [Option<T>],
 }
 
 impl<'a, T: Item> Tally<'a, T> {
@@ -125,12 +128,15 @@ impl<'a, T: Item> Tally<'a, T> {
         Tally { places }
     }
 
-    /// Keeps the item in the place, as `keep` does.
+    /// Keeps the item in the place, unless that is refused, and says whether the kept items alike to it are then exactly as many as the threshold.
     pub fn put(&mut self, place: usize, item: T, threshold: usize) -> Result<bool, Refused>
         ensures lent { self.new.places.ghost_name ≡ self.old.places.ghost_name }
         ensures answer { result ≡ judged T.Item.above T.Item.alike self.old.places.now place item threshold }
         ensures kept { self.new.places.now ≡ put_to T.Item.above self.old.places.now place item }
     {
-        keep(self.places, place, item, threshold)
+        let places = &mut *self.places;
+        let reached = judge(places, place, &item, threshold)?;
+        places[place] = Some(item);
+        Ok(reached)
     }
 }

@@ -1,5 +1,5 @@
 use super::numbers::Numbered;
-use super::places::{Refused, Tally, clear, judge, next_alike};
+use super::places::{Alike, Refused, Tally, clear, judge};
 use std::process::Abort;
 
 // A place, the number that is put there, and the answer at a threshold of 3, over five places in the order of the table.
@@ -38,10 +38,13 @@ fn puts(rt: HostRuntime) {
 
 // Where the walk from a place on first meets the number.
 fn found_at(places: &[Option<Numbered>], from: usize, number: u32) -> Option<usize> {
-    match next_alike(places, from, &Numbered { number }) {
-        Some((place, _)) => Some(place),
-        None => None,
-    }
+    let item = Numbered { number };
+    let mut walk = Alike {
+        places,
+        item: &item,
+        place: from,
+    };
+    walk.next().map(|(place, _)| place)
 }
 
 #[test]

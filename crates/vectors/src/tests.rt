@@ -4,17 +4,13 @@ use std::process::Abort;
 
 const DIGITS: [u8; 16] = *b"0123456789abcdef";
 
-fn hexadecimal(bytes: [u8; 32]) -> [u8; 64] {
-    let mut text = [0; 64];
-    for i in 0..32 {
-        text[2 * i] = DIGITS[(bytes[i] / 16) as usize];
-        text[2 * i + 1] = DIGITS[(bytes[i] % 16) as usize];
-    }
-    text
+// Two digits for each byte.
+fn hexadecimal(bytes: [u8; 32]) -> [[u8; 2]; 32] {
+    bytes.map(|byte| [DIGITS[(byte / 16) as usize], DIGITS[(byte % 16) as usize]])
 }
 
 fn expect(rt: &impl Abort, bytes: [u8; 32], published: &[u8; 64]) {
-    assert_eq!(rt; hexadecimal(bytes), *published);
+    assert_eq!(rt; hexadecimal(bytes).as_flattened(), published.as_slice());
 }
 
 // The first two are the examples of FIPS 180-4 for SHA-256 (NIST, "SHA-256 example with intermediate values"), the third is among
@@ -85,7 +81,10 @@ fn short_keys(rt: HostRuntime) {
 #[test]
 fn truncated(rt: HostRuntime) {
     let tag = hexadecimal(hmac(&[0x0c; 20], b"Test With Truncation"));
-    assert_eq!(rt; &tag[0..32], b"a3b6167473100ee06e0c796c2955552b".as_slice());
+    assert_eq!(rt;
+        &tag.as_flattened()[0..32],
+        b"a3b6167473100ee06e0c796c2955552b".as_slice()
+    );
 }
 
 // RFC 4231, sections 4.7 and 4.8: test cases 6 and 7, with a key longer than a block, and with a text longer than one too.

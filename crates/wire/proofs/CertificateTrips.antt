@@ -5,6 +5,7 @@ use Rattle.std.specs.List.{flat_map}
 use Rattle.std.proofs.ByRecursion.{All-take}
 use Rattle.std.proofs.lemmas.List.{length-append, length-drop, get_or_at, drop_at, drop-drop, drop_more}
 use Rattle.std.proofs.lemmas.Bool.{and_parts, and_from, cond-true, leb-true, le-leb, eqb-true, eq-eqb}
+use Rattle.std.proofs.lemmas.Option.{none-some, cond_some}
 use Rattle.blocks.specs.declared.statement.Statement.{Statement}
 use Rattle.blocks.specs.RoundTrips.{AreBytes}
 use Rattle.blocks.specs.Statements.{genesis, statement_bytes, read_statement, StatementFits}
@@ -16,7 +17,7 @@ use Rattle.wire.specs.Layouts.{entry_bytes, certificate_bytes}
 use Rattle.wire.specs.Messages.{certificate}
 use Rattle.wire.specs.RoundTrips.{EntriesFit, Certifies, CertificateHolds, CertificateFits, CertificateStands, GenesisCertified}
 use Rattle.wire.proofs.EntryTrips.{Read, length_entries, entries_read, read_fits, entries_written}
-use Rattle.wire.proofs.Passing.{none_some, passed, gave}
+use Rattle.wire.proofs.Passing.{passed}
 
 -- one element and others behind n
 pub record Behind (n k : ℕ) (rest bs : List ℕ) : Type 0 where
@@ -70,9 +71,9 @@ module _ (form : Form) where
     place : c.at ≡ at
 
   came : (at : ℕ) (bs : List ℕ) (o : Option Statement) (c : CertificatePart) → certificate_saying form at bs o ≡ Some c → Came at bs o c
-  came at bs None c e = absurd (none_some c e)
+  came at bs None c e = absurd (none-some c e)
   came at bs (Some s) c e =
-      let given = gave (certified form s bs) (record { statement = s; bytes = bs; at = at }) c e in
+      let given = cond_some (certified form s bs) (record { statement = s; bytes = bs; at = at }) c e in
       subst (Came at bs (Some s)) given.1 (record { says = refl; certified = certified_as s bs given.0; bytes = refl; place = refl })
 
   pub certificate_certifies : (at : ℕ) (bs : List ℕ) (c : CertificatePart) → read_certificate form at bs ≡ Some c → Certifies form c.statement (certificate_entries form.width bs)

@@ -1,5 +1,5 @@
-pub mod EntrySteps
 pub mod Reading
+pub mod EntrySteps
 pub mod EntryTrips
 pub mod Passing
 pub mod CertificateTrips

@@ -4,7 +4,8 @@ use Rattle.std.specs.Option.{option_map}
 use Rattle.std.proofs.ByRecursion.{All-get_or, All-take, All-drop}
 use Rattle.std.proofs.lemmas.List.{append_assoc, length-append, length-drop, length-take-le, take_all, take_at, take-append-drop, drop_at, drop-drop, drop_more, take-take}
 use Rattle.std.proofs.lemmas.Bool.{and_parts, and_from, cases_eq, cond-true, cond-false, leb-true, le-leb, lt-ltb, ltb-true, eqb-true, eq-eqb, ne_eqb}
-use Rattle.coin.specs.Shares.{Member, size}
+use Rattle.std.proofs.lemmas.Option.{none-some, cond_some}
+use Rattle.coin.specs.Shares.{Member, size, is_member}
 use Rattle.digest.specs.Bytes.{bytes16, bytes32, number16, number32}
 use Rattle.digest.proofs.Bytes.{bytes16_number, bytes32_number, number16_bytes16, number32_bytes32}
 use Rattle.blocks.specs.declared.head.Head.{Head}
@@ -18,12 +19,12 @@ use Rattle.wire.specs.declared.form.Form.{Form}
 use Rattle.wire.specs.Certificates.{CertificatePart, read_certificate}
 use Rattle.wire.specs.Entries.{entries_of, entries_formed}
 use Rattle.wire.specs.Layouts.{gathered_bytes, message_number, body_bytes, message_bytes}
-use Rattle.wire.specs.Messages.{BlockPart, VoteText, TimeoutText, GatheredText, ShareText, Text, proposal, vote, timeout, timeout_certificate, certificate, share, coin_certificate, is_member, block_headed, read_block, proposal_of, read_proposal, vote_saying, read_vote, timeout_with, read_timeout, gathered_formed, gathered, read_timeout_certificate, read_sole, read_share, read_coin_certificate, by_kind, read_message}
+use Rattle.wire.specs.Messages.{BlockPart, VoteText, TimeoutText, GatheredText, ShareText, Text, proposal, vote, timeout, timeout_certificate, certificate, share, coin_certificate, block_headed, read_block, proposal_of, read_proposal, vote_saying, read_vote, timeout_with, read_timeout, gathered_formed, gathered, read_timeout_certificate, read_sole, read_share, read_coin_certificate, by_kind, read_message}
 use Rattle.wire.specs.Quorums.{quorum}
 use Rattle.wire.specs.RoundTrips.{Gathers, payload_of, BlockFits, ProposalFits, VoteFits, TimeoutFits, GatheredFits, ShareFits, TextFits, MessagesRoundTrip, StandsAt, PartsInPlace, AllPartsInPlace, EntriesHold, AllEntriesHold}
 use Rattle.wire.proofs.CertificateTrips.{statement_again, statement_fits, statement_behind, statement_front, certificate_certifies, certificate_holds, certificate_bytes_lem, certificate_fits, certificate_back}
 use Rattle.wire.proofs.EntryTrips.{entries_read, read_fits, entries_written}
-use Rattle.wire.proofs.Passing.{none_some, passed, gave, from_mapped}
+use Rattle.wire.proofs.Passing.{passed, from_mapped}
 
 -- Fields
 
@@ -104,8 +105,8 @@ module _ (form : Form) where
 
   headed : (at : ℕ) (bs : List ℕ) (o : Option Head) (b : BlockPart) → block_headed at bs o ≡ Some b
       → (h : Head) × (o ≡ Some h) × (45 + h.payload ≤ length bs) × (record { head = h; bytes = take (45 + h.payload) bs; at = at } ≡ b)
-  headed at bs None b e = absurd (none_some b e)
-  headed at bs (Some h) b e = let p = gave (leb (45 + h.payload) (length bs)) _ b e in (h, refl, leb-true (45 + h.payload) (length bs) p.0, p.1)
+  headed at bs None b e = absurd (none-some b e)
+  headed at bs (Some h) b e = let p = cond_some (leb (45 + h.payload) (length bs)) _ b e in (h, refl, leb-true (45 + h.payload) (length bs) p.0, p.1)
 
   record BlockCame (at : ℕ) (bs : List ℕ) (b : BlockPart) : Type 0 where
     again : b.bytes ++ drop (length b.bytes) bs ≡ bs
@@ -130,7 +131,7 @@ module _ (form : Form) where
 
   proposal_of_lem : (bs : List ℕ) (t : Text) (o : Option BlockPart) → proposal_of form bs o ≡ Some t
       → (b : BlockPart) × (c : CertificatePart) × (o ≡ Some b) × (read_certificate form (1 + length b.bytes) (drop (length b.bytes) bs) ≡ Some c) × (proposal b c ≡ t)
-  proposal_of_lem bs t None e = absurd (none_some t e)
+  proposal_of_lem bs t None e = absurd (none-some t e)
   proposal_of_lem bs t (Some b) e = let p = from_mapped (proposal b) _ t e in (b, p.0, refl, p.1, p.2)
 
   proposal_read : (bs : List ℕ) (t : Text) → read_proposal form bs ≡ Some t → Came (1 ∷ bs) t
@@ -150,8 +151,8 @@ module _ (form : Form) where
 
   vote_said : (bs : List ℕ) (t : Text) (o : Option Statement) → vote_saying form bs o ≡ Some t
       → (s : Statement) × (o ≡ Some s) × Member form.members (get_or bs 43 0) × (vote (record { statement = s; signer = get_or bs 43 0; tag = drop 44 bs }) ≡ t)
-  vote_said bs t None e = absurd (none_some t e)
-  vote_said bs t (Some s) e = let p = gave (is_member form.members (get_or bs 43 0)) _ t e in (s, refl, member_fits _ _ p.0, p.1)
+  vote_said bs t None e = absurd (none-some t e)
+  vote_said bs t (Some s) e = let p = cond_some (is_member form.members (get_or bs 43 0)) _ t e in (s, refl, member_fits _ _ p.0, p.1)
 
   vote_read : (bs : List ℕ) (t : Text) → read_vote form bs ≡ Some t → Came (2 ∷ bs) t
   vote_read bs t e =
@@ -191,7 +192,7 @@ module _ (form : Form) where
 
   timeout_certificate_read : (bs : List ℕ) (t : Text) → read_timeout_certificate form bs ≡ Some t → Came (4 ∷ bs) t
   timeout_certificate_read bs t e =
-      let r = gave (gathered_formed form.members None form.width (quorum form.members) bs) _ t e in
+      let r = cond_some (gathered_formed form.members None form.width (quorum form.members) bs) _ t e in
       let g = gathered_read form.members None form.width (quorum form.members) bs r.0 in
       subst (Came (4 ∷ bs)) r.1 (record {
         holds = g.holds;
@@ -210,7 +211,7 @@ module _ (form : Form) where
 
   share_read : (bs : List ℕ) (t : Text) → read_share form bs ≡ Some t → Came (6 ∷ bs) t
   share_read bs t e =
-      let r = gave (eqb (length bs) (7 + form.width) && (is_member form.members (get_or bs 4 0) && leb (number16 bs 5) form.greatest)) _ t e in
+      let r = cond_some (eqb (length bs) (7 + form.width) && (is_member form.members (get_or bs 4 0) && leb (number16 bs 5) form.greatest)) _ t e in
       let tests = and_parts (eqb (length bs) (7 + form.width)) _ r.0 in
       let known = and_parts (is_member form.members (get_or bs 4 0)) _ tests.1 in
       let long = eqb-true (length bs) (7 + form.width) tests.0 in
@@ -228,7 +229,7 @@ module _ (form : Form) where
 
   coin_certificate_read : (bs : List ℕ) (t : Text) → read_coin_certificate form bs ≡ Some t → Came (7 ∷ bs) t
   coin_certificate_read bs t e =
-      let r = gave (gathered_formed form.members (Some form.greatest) (2 + form.width) (size form.members) bs) _ t e in
+      let r = cond_some (gathered_formed form.members (Some form.greatest) (2 + form.width) (size form.members) bs) _ t e in
       let g = gathered_read form.members (Some form.greatest) (2 + form.width) (size form.members) bs r.0 in
       subst (Came (7 ∷ bs)) r.1 (record {
         holds = g.holds;
@@ -251,10 +252,10 @@ module _ (form : Form) where
       (or_else 4 kind _ _ (timeout_certificate_read bs t)
       (or_else 5 kind _ _ (sole_read bs t)
       (or_else 6 kind _ _ (share_read bs t)
-      (or_else 7 kind _ _ (coin_certificate_read bs t) (λ e. absurd (none_some t e))))))))
+      (or_else 7 kind _ _ (coin_certificate_read bs t) (λ e. absurd (none-some t e))))))))
 
   message_read : (m : List ℕ) (t : Text) → read_message form m ≡ Some t → Came m t
-  message_read [] t e = absurd (none_some t e)
+  message_read [] t e = absurd (none-some t e)
   message_read (kind ∷ bs) t e = kind_read kind bs t (passed (leb 1 (length (kind ∷ bs))) _ t e).1
 
   -- What is written

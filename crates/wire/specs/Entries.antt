@@ -1,5 +1,5 @@
 -- The entries of certificates: each is a signer (1 byte) and a tag, in a coin certificate a member (1), a value (2) and a tag.
-use Rattle.std.specs.Prelude.{ℕ, zero, suc, ◌+◌, Bool, true, ◌&&◌, List, [], ◌∷◌, take, drop, Some, None, Option, nat_le, nat_lt, slice_index}
+use Rattle.std.specs.Prelude.{ℕ, zero, suc, ◌+◌, ◌*◌, Bool, true, ◌&&◌, List, [], ◌∷◌, length, take, drop, Some, None, Option, ◌==◌, nat_le, nat_lt, slice_index}
 use Rattle.digest.specs.Bytes.{number16}
 
 pub record Entry : Type 0 where
@@ -26,3 +26,7 @@ abbrev pub entries_formed : ℕ → Option ℕ → ℕ → ℕ → ℕ → List 
 entries_formed n limit wide zero last bs = true
 entries_formed n limit wide (suc count) last bs =
     entry_formed n limit last (take (1 + wide) bs) && entries_formed n limit wide count (slice_index bs 0) (drop (1 + wide) bs)
+
+-- the bytes are count entries with rising signers
+abbrev pub are_entries : ℕ → Option ℕ → ℕ → ℕ → List ℕ → Bool
+are_entries n limit wide count bs = length bs == count * (1 + wide) && entries_formed n limit wide count 0 bs

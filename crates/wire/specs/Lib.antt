@@ -2,9 +2,11 @@ pub mod Limits
 pub mod Quorums
 pub mod Forms
 pub mod Entries
+pub mod Parts
 pub mod Certificates
 pub mod Messages
 pub mod Told
+pub mod Kinds
 pub mod Layouts
 pub mod RoundTrips
 pub mod Writing

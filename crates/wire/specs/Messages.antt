@@ -1,8 +1,8 @@
 -- The seven messages: the first byte gives the kind, and the rest follows without a spare byte. What stands at a place of a message is
 -- told with that place. A reading gives nothing where the bytes have not the form.
-use Rattle.std.specs.Prelude.{ℕ, ◌+◌, ◌*◌, Bool, cond, ◌&&◌, List, length, take, drop, Some, None, Option, ◌==◌, nat_le, nat_lt, slice_index}
+use Rattle.std.specs.Prelude.{ℕ, ◌+◌, ◌*◌, Bool, cond, ◌&&◌, List, length, take, drop, Some, None, Option, ◌==◌, nat_le, slice_index}
 use Rattle.std.specs.Option.{option_map}
-use Rattle.coin.specs.Shares.{size}
+use Rattle.coin.specs.Shares.{size, is_member}
 use Rattle.digest.specs.Bytes.{number16, number32}
 use Rattle.blocks.specs.declared.head.Head.{Head}
 use Rattle.blocks.specs.declared.rank.View.{View}
@@ -51,9 +51,6 @@ pub data Text : Type 0 where
   certificate : CertificatePart → Text
   share : ShareText → Text
   coin_certificate : GatheredText → Text
-
-abbrev pub is_member : ℕ → ℕ → Bool
-is_member n m = nat_lt 0 m && nat_le m n
 
 -- a block: head and payload
 abbrev pub block_headed : ℕ → List ℕ → Option Head → Option BlockPart

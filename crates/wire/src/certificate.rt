@@ -1,12 +1,10 @@
 // Certificates as parts of a message.
-ghost use Rattle.std.specs.Prelude.{◌≡◌, ◌≤◌, cond, length};
+ghost use Rattle.std.specs.Prelude.{◌≡◌};
 ghost use Rattle.std.specs.Option.{option_map};
-ghost use Rattle.wire.specs.Certificates.{count_for, certified, read_certificate, certificate_told};
+ghost use Rattle.wire.specs.Certificates.{count_for, read_certificate, certificate_told};
 
-use crate::entries::entries_formed;
 use crate::form::{Form, quorum};
-use crate::parts::{Part, after};
-use blocks::limits::STATEMENT_BYTES;
+use crate::parts::{Part, read_said};
 use blocks::statement::Statement;
 
 // A certificate: what it certifies, and the part of the message that holds it.
@@ -17,7 +15,7 @@ pub struct Certificate<'a> {
 }
 
 // How many entries a certificate of the statement has.
-fn count_for(n: u8, statement: &Statement) -> u8
+pub fn count_for(n: u8, statement: &Statement) -> u8
     ensures { result ≡ count_for n statement.now }
 {
     if statement.proposer == 0 {
@@ -27,43 +25,14 @@ fn count_for(n: u8, statement: &Statement) -> u8
     }
 }
 
-// Whether the bytes after the statement have the form of a certificate of it.
-fn certified(form: Form, statement: &Statement, bytes: &[u8]) -> bool
-    requires { 44 ≤ length bytes.now }
-    ensures { result ≡ certified form statement.now bytes.now }
+// The certificate that the part of a message is.
+pub(crate) fn read_certificate<'a>(form: Form, part: Part<'a>) -> Option<Certificate<'a>>
+    ensures { option_map certificate_told result ≡ read_certificate form part.entry.at part.entry.bytes.now }
 {
-    let count = bytes[STATEMENT_BYTES];
-    let wide = form.width as usize;
-    count == count_for(form.members, statement)
-        && bytes.len() == STATEMENT_BYTES + 1 + count as usize * (1 + wide)
-        && entries_formed(
-            form.members,
-            None,
-            wide,
-            count,
-            after(bytes, STATEMENT_BYTES + 1),
-        )
-}
-
-// The certificate that the bytes are, which stand at a place of a message.
-pub(crate) fn read_certificate<'a>(
-    form: Form,
-    at: usize,
-    bytes: &'a [u8],
-) -> Option<Certificate<'a>>
-    ensures { option_map certificate_told result ≡ read_certificate form at bytes.now }
-{
-    if bytes.len() < STATEMENT_BYTES + 1 {
+    let (statement, count, entries) = read_said(form.members, part.bytes)?;
+    let wanted = form.tags(count_for(form.members, &statement));
+    if !wanted.met_by(count, entries) {
         return None;
     }
-    let Some(statement) = Statement::read(&bytes[0..STATEMENT_BYTES], form.members) else {
-        return None;
-    };
-    if !certified(form, &statement, bytes) {
-        return None;
-    }
-    Some(Certificate {
-        statement,
-        part: Part { bytes, at },
-    })
+    Some(Certificate { statement, part })
 }

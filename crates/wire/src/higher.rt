@@ -1,5 +1,5 @@
 // The higher of two certificates.
-ghost use Rattle.std.specs.Prelude.{◌≡◌, length, if◌then◌else◌};
+ghost use Rattle.std.specs.Prelude.{◌≡◌, ◌<◌, ◌≤◌, length, take, MatchOption, if◌then◌else◌};
 ghost use Rattle.blocks.specs.Ranks.{less_rank};
 ghost use Rattle.blocks.specs.Statements.{rank_of, statement_of};
 ghost use Rattle.wire.specs.Higher.{certificate_rank, higher_of};
@@ -8,31 +8,23 @@ use blocks::limits::STATEMENT_BYTES;
 use blocks::rank::{Kind, Rank, Round, View};
 use blocks::statement::Statement;
 
-// The rank in a statement's bytes.
-fn rank_in(statement: &[u8]) -> Rank
-    requires { length statement.now ≡ 43 }
-    ensures { result ≡ rank_of (statement_of statement.now) }
+// The rank of the statement that the bytes begin with, if they are as many.
+fn rank_in(bytes: &[u8]) -> Option<Rank>
+    ensures { MatchOption result (length bytes.now < 43) (λ rank. (43 ≤ length bytes.now) × (rank ≡ rank_of (statement_of (take 43 bytes.now)))) }
 {
-    let kind = if statement[0] == 0 {
-        Kind::Regular
-    } else {
-        Kind::Fallback
-    };
-    Rank {
-        view: View(u32::from_be_bytes([statement[3], statement[4], statement[5], statement[6]])),
-        kind,
-        round: Round(u32::from_be_bytes([statement[7], statement[8], statement[9], statement[10]])),
-    }
+    let [kind, _, _, v0, v1, v2, v3, r0, r1, r2, r3, ..] = bytes.first_chunk::<STATEMENT_BYTES>()?;
+    Some(Rank {
+        view: View(u32::from_be_bytes([*v0, *v1, *v2, *v3])),
+        kind: Kind::try_from(*kind).unwrap_or(Kind::Fallback),
+        round: Round(u32::from_be_bytes([*r0, *r1, *r2, *r3])),
+    })
 }
 
 // The rank of what a certificate certifies; bytes that are too few for a statement rank as genesis.
 pub fn certificate_rank(bytes: &[u8]) -> Rank
     ensures { result ≡ certificate_rank bytes.now }
 {
-    if bytes.len() < STATEMENT_BYTES {
-        return Statement::genesis().rank();
-    }
-    rank_in(&bytes[0..STATEMENT_BYTES])
+    rank_in(bytes).unwrap_or(Statement::genesis().rank())
 }
 
 // Of two certificates the higher in rank, as the very bytes that held it; the first at equal rank.

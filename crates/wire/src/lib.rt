@@ -6,6 +6,7 @@ pub mod entries;
 pub mod examples;
 pub mod form;
 pub mod higher;
+pub mod kind;
 pub mod laws;
 pub mod limits;
 pub mod message;

@@ -1,5 +1,8 @@
 // The seven messages, as parts of the bytes that hold them.
+ghost use Rattle.std.specs.Prelude.{◌≡◌};
+
 use crate::certificate::Certificate;
+use crate::kind::MessageKind;
 use crate::parts::Part;
 use blocks::head::Head;
 use blocks::rank::View;
@@ -60,4 +63,25 @@ pub enum Message<'a> {
     Certificate(Certificate<'a>),
     Share(Share<'a>),
     CoinCertificate(Gathered<'a>),
+}
+
+impl Message<'_> {
+    ghost use Rattle.wire.specs.Kinds.{kind_number};
+    ghost use Rattle.wire.specs.Layouts.{message_number};
+    ghost use Rattle.wire.specs.Told.{message_told};
+
+    // What the message is.
+    pub fn kind(&self) -> MessageKind
+        ensures { kind_number result ≡ message_number (message_told self.now) }
+    {
+        match self {
+            Message::Proposal(_) => MessageKind::Proposal,
+            Message::Vote(_) => MessageKind::Vote,
+            Message::Timeout(_) => MessageKind::Timeout,
+            Message::TimeoutCertificate(_) => MessageKind::TimeoutCertificate,
+            Message::Certificate(_) => MessageKind::Certificate,
+            Message::Share(_) => MessageKind::Share,
+            Message::CoinCertificate(_) => MessageKind::CoinCertificate,
+        }
+    }
 }

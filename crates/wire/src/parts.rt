@@ -1,5 +1,10 @@
 // Parts of a message.
-ghost use Rattle.std.specs.Prelude.{◌≡◌, ◌+◌, ◌≤◌, length, take, drop};
+ghost use Rattle.std.specs.Prelude.{◌<◌, length, MatchOption};
+ghost use Rattle.wire.specs.Parts.{SaysFirst, SaysNothing, ViewFirst};
+
+use blocks::limits::STATEMENT_BYTES;
+use blocks::rank::View;
+use blocks::statement::Statement;
 
 // A part of a message, with its place in it.
 #[derive(Clone, Copy)]
@@ -8,21 +13,21 @@ pub struct Part<'a> {
     pub at: usize,
 }
 
-// What follows the first n bytes.
-pub(crate) fn after(bytes: &[u8], n: usize) -> &[u8]
-    requires { n ≤ length bytes.now }
-    ensures bytes { result.now ≡ drop n bytes.now }
-    ensures len { length result.now + n ≡ length bytes.now }
+// The statement that the bytes begin with, the byte that follows it, and the rest.
+pub(crate) fn read_said(n: u8, bytes: &[u8]) -> Option<(Statement, u8, &[u8])>
+    ensures { MatchOption result (SaysNothing n bytes.now) (λ p. SaysFirst n bytes.now p.0 p.1 p.2.now) }
 {
-    &bytes[n..]
+    let (said, rest) = bytes.split_at_checked(STATEMENT_BYTES)?;
+    let (byte, rest) = rest.split_first()?;
+    Some((Statement::read(said, n)?, *byte, rest))
 }
 
-// The n bytes from a place on.
-pub(crate) fn stretch(bytes: &[u8], at: usize, n: usize) -> &[u8]
-    requires { at + n ≤ length bytes.now }
-    ensures bytes { result.now ≡ take n (drop at bytes.now) }
-    ensures len { length result.now ≡ n }
+// The view that the bytes begin with, the byte that follows it, and the rest.
+pub(crate) fn read_viewed(bytes: &[u8]) -> Option<(View, u8, &[u8])>
+    ensures { MatchOption result (length bytes.now < 5) (λ p. ViewFirst bytes.now p.0 p.1 p.2.now) }
 {
-    let end = at + n;
-    &bytes[at..end]
+    let [a, b, c, d, byte, rest @ ..] = bytes else {
+        return None;
+    };
+    Some((View(u32::from_be_bytes([*a, *b, *c, *d])), *byte, rest))
 }

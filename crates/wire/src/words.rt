@@ -1,27 +1,17 @@
 // Words: what is signed.
-ghost use Rattle.std.specs.Prelude.{◌≡◌, ◌∷◌};
-ghost use Rattle.blocks.specs.Statements.{statement_bytes};
+ghost use Rattle.std.specs.Prelude.{◌≡◌};
 ghost use Rattle.wire.specs.Layouts.{vote_words, timeout_words, share_words};
 
-use blocks::layout::put;
 use blocks::rank::View;
 use blocks::statement::Statement;
-
-// A number and the bytes of a statement.
-pub(crate) fn numbered(number: u8, statement: Statement) -> [u8; 44]
-    ensures { result ≡ number ∷ statement_bytes statement }
-{
-    let mut bytes = [0; 44];
-    let at = put(&mut bytes, 0, &[number]);
-    put(&mut bytes, at, &statement.bytes());
-    bytes
-}
 
 // The words of a vote for what the statement says.
 pub fn vote_words(statement: &Statement) -> [u8; 44]
     ensures { result ≡ vote_words statement.now }
 {
-    numbered(1, *statement)
+    let mut words = [1; 44];
+    words[1..].copy_from_slice(&statement.bytes());
+    words
 }
 
 // The words of a timeout in the view.

@@ -2,7 +2,7 @@
 use crate::fault::Fault;
 use crate::sample::MEMBERS;
 use std::alloc::Global;
-use tally::{Numbered, Refused, keep};
+use tally::{Numbered, Refused, Tally};
 use wire::form::quorum;
 
 // The members whose timeouts come in, in turn.
@@ -22,8 +22,9 @@ fn write_puts(
     places: &mut [Option<Numbered>],
     threshold: usize,
 ) -> Result<(), Fault> {
+    let mut tally = Tally::over(places);
     for member in SENDERS {
-        let answer = keep(places, place_of(member), Numbered { number: 0 }, threshold);
+        let answer = tally.put(place_of(member), Numbered { number: 0 }, threshold);
         writeln!(text, "  member {member}: {}", told(answer))?;
     }
     Ok(())

@@ -39,8 +39,8 @@ roomy n m h = ap (λ (b : Bool). cond b (Some (part_bytes * n)) None) (sym (le-l
 
 pub loop-i-preserved : goal.loop-i-preserved
 loop-i-preserved c =
-    turn c.args.keys.now c.args.words.now c.args.out.now c.loop-i.out c.copy_from_slice.new.self c.pair_part-part.result c.loop-i.i _
-    c.loop-i-test.true c.loop-i.invariant c.pair_part-part.ensures c.copy_from_slice.ensures.after
+    turn c.args.keys.now c.args.words.now c.args.out.now c.loop-i.out c.copy_from_slice.new.self c.pair_part.result c.loop-i.i _
+    c.loop-i-test.true c.loop-i.invariant c.pair_part.ensures c.copy_from_slice.ensures.after
 
 pub returns : goal.returns
 returns c = record {

@@ -1,14 +1,16 @@
-use Rattle.std.proofs.Common.{◌+◌, drop, sym, ap, ◌∙◌}
-use Rattle.std.proofs.lemmas.List.{at_drop_more, at_drop_all}
+use Rattle.std.proofs.Common.{◌≡◌, List, [], ◌∷◌, refl, ◌∙◌, slice_index_or, rules}
+use Rattle.std.specs.List.{fold}
+use Rattle.coin.specs.declared.shares.Share.{Share}
 use Rattle.coin.specs.Shares.{nobody}
-use Rattle.coin.specs.Drawing.{lowest}
+use Rattle.coin.specs.Drawing.{lower, lowest}
 use Rattle.coin.proofs.drawn_list.lowest_of.Goals as goal
 
-pub loop-share-preserved : goal.loop-share-preserved
-loop-share-preserved c =
-    let xs = c.args.shares.now in
-    let i = c.loop-share.share-index in
-    ap (λ b. lowest b (drop (i + 1) xs)) c.lower_of-best.ensures ∙ sym (at_drop_more (lowest c.loop-share.best) xs i nobody c.loop-share-test.true) ∙ c.loop-share.invariant
+fold-lower : (s : Share) (ss : List Share) → fold lower s ss ≡ lowest s ss
+fold-lower s [] = refl
+fold-lower s (t ∷ ts) = fold-lower (lower s t) ts
 
 pub returns : goal.returns
-returns c = sym (at_drop_all (lowest c.loop-share.best) c.args.shares.now c.loop-share.share-index c.loop-share-test.false) ∙ c.loop-share.invariant
+returns c =
+    let shares = c.args.shares.now in
+    let folded : c.fold.result ≡ fold lower (slice_index_or shares 0 nobody) shares = search rules in
+    folded ∙ fold-lower (slice_index_or shares 0 nobody) shares

@@ -1,21 +1,9 @@
-use Rattle.std.proofs.Common.{◌≡◌, ◌-◌, ◌<◌, ◌≤◌, length, get_or, take, drop, sym, ◌∙◌, subst, arith, rules}
-use Rattle.std.proofs.ByRecursion.{All-get_or}
-use Rattle.coin.specs.Shares.{Apart, Other, nobody}
+use Rattle.std.proofs.Common.{◌≡◌, ◌-◌, ◌<◌, ◌≤◌, length, get_or, take, drop, sym, subst, arith, rules}
+use Rattle.coin.specs.Shares.{Apart, nobody}
 use Rattle.coin.specs.Interpolation.{reduce}
 use Rattle.coin.specs.Pieces.{whole}
-use Rattle.coin.specs.Reduced.{apart_reduced, next_kept, next_mapped, all_mapped, at_zero_step}
+use Rattle.coin.specs.Reduced.{apart_reduced, next_mapped, all_mapped}
 use Rattle.coin.proofs.polynomial.+value_at_zero.Goals as goal
-
-pub reduced-requires : goal.reduced-requires
-reduced-requires t c =
-    let xs = c.args.points.now in
-    let first = get_or xs 0 nobody in
-    let rest = take (length xs - 1) (drop 1 xs) in
-    let some : 1 ≤ length xs = search rules in
-    let apart = subst Apart (whole nobody xs some) c.requires in
-    let i = c.loop-other.other-index in
-    let here : i < length rest = omega arith in
-    subst (Other first) (sym (next_kept (reduce first) c.loop-other.rest rest i c.loop-other.invariant here)) (All-get_or (Other first) rest i nobody here apart.0)
 
 pub loop-other-preserved : goal.loop-other-preserved
 loop-other-preserved t c =
@@ -33,16 +21,3 @@ value_at_zero-slope-requires t c =
     let done : c.loop-other.rest ≡ _ = all_mapped (reduce first) c.loop-other.rest rest c.loop-other.other-index c.loop-other.invariant (omega arith) in
     let shorter : length c.loop-other.rest < length xs = search rules in
     (search rules, subst Apart (sym done) (apart_reduced first rest apart.1))
-
-pub returns : goal.returns
-returns t c =
-    let xs = c.args.points.now in
-    let first = get_or xs 0 nobody in
-    let rest = take (length xs - 1) (drop 1 xs) in
-    let some : 1 ≤ length xs = search rules in
-    record {
-      is = c.from_slope.ensures.is ∙ at_zero_step xs first rest c.loop-other.rest c.value_at_zero-slope.result (whole nobody xs some)
-          (all_mapped (reduce first) c.loop-other.rest rest c.loop-other.other-index c.loop-other.invariant (omega arith))
-          c.value_at_zero-slope.ensures.is;
-      below = c.from_slope.ensures.below;
-    }

@@ -1,11 +1,14 @@
-use Rattle.std.proofs.Common.{sym, ◌∙◌}
-use Rattle.table.proofs.Lookups.{lookup_here, lookup_on}
+use Rattle.std.proofs.Common.{rules, ◌∙◌}
+use Rattle.std.specs.Str.{bytes_eq}
+use Rattle.std.proofs.lemmas.Iterator.{YieldsList-from_slice, YieldsList-from_take}
+use Rattle.std.proofs.lemmas.Iterator.Search.{position_from_yields_List}
+use borrow.Author.Tests.{tests}
+use Rattle.table.specs.declared.held.Held.{Held}
+use Rattle.table.proofs.Lookups.{position_lookup}
 use Rattle.table.proofs.places.find.Goals as goal
 
-pub returns-then-has_id : goal.returns-then-has_id
-returns-then-has_id c =
-    sym (lookup_here c.args.table.now c.args.held c.args.id.now c.min.result c.loop-i.i _ c.min.ensures c.loop-i-test.true c.if-has_id.ensures) ∙ c.loop-i.invariant
-
-pub loop-i-preserved : goal.loop-i-preserved
-loop-i-preserved c =
-    sym (lookup_on c.args.table.now c.args.held c.args.id.now c.min.result c.loop-i.i _ c.min.ensures c.loop-i-test.true c.if-has_id.ensures) ∙ c.loop-i.invariant
+pub returns : goal.returns
+returns c =
+    position_from_yields_List (λ (b : Held). bytes_eq b.id c.args.id.now) _ _ c.position.result c.position.ensures.ran
+    (YieldsList-from_take c.args.held (YieldsList-from_slice c.args.table.now cc) cc) (λ x b q k. search (rules, tests))
+    ∙ position_lookup c.args.table.now c.args.held c.args.id.now

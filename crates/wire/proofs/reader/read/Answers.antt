@@ -1,9 +1,5 @@
-use Rattle.std.proofs.Common.{rules}
 use Rattle.wire.proofs.Reading.{message_by}
 use Rattle.wire.proofs.reader.read.Goals as goal
 
-pub returns-in-Some : goal.returns-in-Some
-returns-in-Some c = message_by c.args.form c.args.message.now _ (search rules) c.in-Some.ensures
-
-pub returns-in-None : goal.returns-in-None
-returns-in-None c = message_by c.args.form c.args.message.now _ (search rules) c.in-None.ensures
+pub returns : goal.returns
+returns c = message_by c.args.form c.args.message.now _ c.read_kind.result _ _ c.in-len1-up.len_at_least c.in_ok-kind.ensures c.ok_or.ensures.value c.read_kind.ensures

@@ -1,10 +1,14 @@
-use Rattle.std.proofs.Common.{◌≡◌, ℕ, ◌+◌, ◌-◌, ◌<◌, ◌≤◌, true, ◌&&◌, eqb, leb, List, [], length, get_or, take, replicate, Some, None, sym, ap, ◌∙◌, arith}
+use Rattle.std.proofs.Common.{◌≡◌, ℕ, ◌+◌, ◌-◌, ◌<◌, ◌≤◌, true, ◌&&◌, eqb, leb, List, [], length, get_or, take, replicate, Some, None, Result, Ok, Err, sym, ap, ◌∙◌, arith}
 use Rattle.std.specs.Str.{bytes_eq}
 use Rattle.std.proofs.lemmas.Slice.Eq.{bytes_eq-Decides}
 use Rattle.std.proofs.lemmas.List.{get_or_append_left, length-append, take_at}
 use Rattle.std.proofs.lemmas.Bool.{and_from, and_parts, cond-true, eqb-true, leb-true, le-leb}
 use Rattle.attest.specs.Limits.{max_members}
-use Rattle.attest.specs.Group.{size_of}
+use Rattle.std.specs.Option.{option_map}
+use Rattle.std.specs.Result.{result_ok}
+use Rattle.attest.specs.declared.group.GroupSize.{GroupSize}
+use Rattle.attest.specs.declared.group.NoGroupSize.{NoGroupSize}
+use Rattle.attest.specs.Group.{size_of, Sized}
 use Rattle.attest.specs.PairKeys.{key_room, fit, padded, given_keys}
 use Rattle.attest.proofs.pair_keys.PairKeys.new.Goals as goal
 
@@ -29,6 +33,10 @@ fitting owner s r ok =
       among = leb-true _ _ d.0;
       same = (bytes_eq-Decides _ _).0 d.1;
     }
+
+group_of : (n : ℕ) (r : Result GroupSize NoGroupSize) (g : GroupSize) → Some g ≡ result_ok r → Sized n r → Some g.number ≡ size_of n
+group_of n (Ok h) g e is = ap (option_map (λ (x : GroupSize). x.number)) e ∙ is
+group_of n (Err f) g e is = cc
 
 sized : (n g : ℕ) → 1 ≤ n → n ≤ max_members → Some g ≡ size_of n → g ≡ n
 sized n g some few e =
@@ -68,9 +76,9 @@ made owner g s r rowS rowR ok size sE rE =
 
 pub invariant_of-result : goal.invariant_of-result
 invariant_of-result c =
-    let m = made c.args.owner c.in_ok-group.group.number c.args.sending.now c.args.receiving.now c.row.result c.row-2.result (sym c.fits.ensures ∙ c.if-not-fits.false) c.in_ok-group.ensures c.row.ensures c.row-2.ensures in
+    let m = made c.args.owner c.in_ok-group.group.number c.args.sending.now c.args.receiving.now c.row.result c.row-2.result (sym c.fits.ensures ∙ c.if-not-fits.false) (group_of (length c.args.sending.now) c.try_from.result c.in_ok-group.group c.in_ok-group.ensures.value c.try_from.ensures) c.row.ensures c.row-2.ensures in
     record { member = m.member; among = m.among; rows = m.rows; paired = m.paired }
 
 pub returns : goal.returns
 returns c =
-    (made c.args.owner c.in_ok-group.group.number c.args.sending.now c.args.receiving.now c.row.result c.row-2.result (sym c.fits.ensures ∙ c.if-not-fits.false) c.in_ok-group.ensures c.row.ensures c.row-2.ensures).keys
+    (made c.args.owner c.in_ok-group.group.number c.args.sending.now c.args.receiving.now c.row.result c.row-2.result (sym c.fits.ensures ∙ c.if-not-fits.false) (group_of (length c.args.sending.now) c.try_from.result c.in_ok-group.group c.in_ok-group.ensures.value c.try_from.ensures) c.row.ensures c.row-2.ensures).keys

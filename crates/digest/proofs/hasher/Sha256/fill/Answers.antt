@@ -9,6 +9,6 @@ returns c =
     record {
       absorbs =
           absorbs h part _
-          (took_fill h part c.place.new.block c.compress.new.state (omega arith) (search rules) c.place.ensures c.compress.ensures);
+          (took_fill h part c.place.new.block c.compress.new.state (omega arith) (search rules) (rw c.held-held.ensures at c.place.ensures) c.compress.ensures);
       whole = omega arith;
     }

@@ -6,4 +6,4 @@ pub returns : goal.returns
 returns c =
     let h = c.args.self.now in
     let few = c.args.few.now in
-    absorbs h few _ (took_hold h few c.place.new.block (omega arith) (search rules) c.place.ensures)
+    absorbs h few _ (took_hold h few c.place.new.block (omega arith) (search rules) (rw c.held-held.ensures at c.place.ensures))
