@@ -51,7 +51,7 @@ fn rank_text(rank: Rank) -> ArrayString<RANK_BYTES>
     let mut text = ArrayString::new();
     push_number(&mut text, rank.view.0);
     text.push(',');
-    push_number(&mut text, rank.kind.byte());
+    push_number(&mut text, u8::from(rank.kind));
     text.push(',');
     push_number(&mut text, rank.round.0);
     text
