@@ -9,8 +9,8 @@ use arrayvec::ArrayString;
 use blocks::layout::put;
 use blocks::rank::Rank;
 use itoa::{Buffer, Integer};
+use table::committed::committed_count;
 use table::held::Held;
-use table::places::block_at;
 
 // The most bytes of a sheet.
 const SHEET_BYTES: usize = 256;
@@ -85,7 +85,6 @@ impl Member {
     fn lines(&self, table: &[Held]) -> Text
         ensures { result.bytes ≡ sheet_text self.now table.now }
     {
-        let committed = block_at(table, self.chain.last).head.round;
         let mut text = ArrayString::new();
         number_line(&mut text, "member", self.site.own);
         number_line(&mut text, "members", self.site.members);
@@ -96,7 +95,7 @@ impl Member {
         push_line(&mut text, "lock", rank_text(self.chain.lock).as_str());
         push_line(&mut text, "high", rank_text(self.chain.high.rank()).as_str());
         number_line(&mut text, "blocks", self.held);
-        number_line(&mut text, "committed", committed.0);
+        number_line(&mut text, "committed", committed_count(table, self.chain.last));
         text
     }
 
