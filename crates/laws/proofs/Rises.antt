@@ -14,7 +14,7 @@ use Rattle.member.specs.declared.state.Chain.{Chain}
 use Rattle.member.specs.declared.state.Member.{Member}
 use Rattle.member.specs.declared.state.Phase.{Phase}
 use Rattle.member.specs.declared.state.Proposed.{Proposed}
-use Rattle.member.specs.declared.state.Row.{Row}
+use Rattle.member.specs.declared.rows.Row.{Row}
 use Rattle.member.specs.Exit.{exit_phase, exit_to}
 use Rattle.member.specs.Propose.{less_proposed}
 use Rattle.member.specs.See.{is_fallback, see, raises}

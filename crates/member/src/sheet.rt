@@ -93,9 +93,17 @@ impl Member {
         number_line(&mut text, "round", self.chain.round.0);
         number_line(&mut text, "voted", self.phase.voted.0);
         push_line(&mut text, "lock", rank_text(self.chain.lock).as_str());
-        push_line(&mut text, "high", rank_text(self.chain.high.rank()).as_str());
+        push_line(
+            &mut text,
+            "high",
+            rank_text(self.chain.high.rank()).as_str(),
+        );
         number_line(&mut text, "blocks", self.held);
-        number_line(&mut text, "committed", committed_count(table, self.chain.last));
+        number_line(
+            &mut text,
+            "committed",
+            committed_count(table, self.chain.last),
+        );
         text
     }
 

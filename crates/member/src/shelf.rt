@@ -31,8 +31,7 @@ pub(crate) fn shelved<'a>(
     ensures long { length result.now ≡ certificate_length form statement.now }
 {
     let end = certificate_length(form, statement);
-    let certificate = &shelf[place];
-    &certificate[0..end]
+    &shelf[place][..end]
 }
 
 // A certificate's bytes at the start of a place of the shelf.
@@ -41,6 +40,5 @@ pub(crate) fn shelve(shelf: &mut [[u8; CERTIFICATE_MOST]], place: usize, bytes: 
     requires room { length bytes.now ≤ 1925 }
     ensures { shelf.new ≡ slice_set shelf.old place (overlay (slice_index_or shelf.old place []) bytes.now) }
 {
-    let certificate = &mut shelf[place];
-    put(certificate, 0, bytes);
+    put(&mut shelf[place], 0, bytes);
 }
