@@ -9,19 +9,19 @@ pub ≼_refl : (a : Rank) → a ≼ a
 pub ≼_trans : {a b c : Rank} → a ≼ b → b ≼ c → a ≼ c
 ≼_trans {a} {b} {c} p q = record {
   views = omega arith;
-  kinds = λ v. omega (arith, p.kinds (omega arith), q.kinds (omega arith));
+  kinds = λ v. omega arith;
   rounds = λ v k.
       let vab : a.view ≡ b.view = omega arith in
       let vbc : b.view ≡ c.view = omega arith in
-      let kab : a.kind ≡ b.kind = omega (arith, p.kinds vab, q.kinds vbc) in
+      let kab : a.kind ≡ b.kind = omega arith in
       let kbc : b.kind ≡ c.kind = omega arith in
-      omega (arith, p.rounds vab kab, q.rounds vbc kbc);
+      omega arith;
 }
 
 -- of a rank that is no higher, but of a higher kind, the view is lower
 pub earlier_view : {a b : Rank} → a ≼ b → b.kind < a.kind → a.view < b.view
 earlier_view {a} {b} p k =
-    elim (cases_lt a.view b.view) [ inl less ↦ less | inr more ↦ absurd (omega (arith, p.kinds (omega arith))) ]
+    elim (cases_lt a.view b.view) [ inl less ↦ less | inr more ↦ absurd (omega arith) ]
 
 pub ≼-total : (a b : Rank) → (a ≼ b) ⊎ (b ≼ a)
 ≼-total a b =
