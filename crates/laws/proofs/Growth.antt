@@ -34,7 +34,7 @@ table_left m l Signed carries left (accepts a m' l' signed done) = done.tables
 
 committed_by : {S : Type 0} (m : Member) (l : Lent S) (Signed : S → Type 0) (carries : Option Statement) (left : Left S) (a : Answer) → Outcome m l Signed carries left →
     left.result ≡ Ok a → a.committed ≡ newly l.table m.chain left.member.chain
-committed_by m l Signed carries left a (refuses x) e = let z : ◌≡◌ {A = ℕ} 0 1 = cc in absurd (omega arith)
+committed_by m l Signed carries left a (refuses x) e = cc
 committed_by m l Signed carries left a (accepts b m' l' signed done) e = let same : a ≡ b = cc in ap (λ x. x.committed) same ∙ done.counts
 
 starts : {S : Type 0} (own n : ℕ) (l : Lent S) (m : Member) → set_up own n (lengths_of l) ≡ Ok m → LinkedMember m (prepared l).table
@@ -51,7 +51,7 @@ starts own n l m =
       committed = omega arith;
       room = omega arith;
     }))
-    (λ e q. let z : ◌≡◌ {A = ℕ} 0 1 = cc in absurd (omega arith))
+    (λ e q. cc)
 
 joined : (xs ys zs : List Block) → Beginning xs ys → Beginning ys zs → Beginning xs zs
 joined xs ys zs p q = record { rest = p.rest ++ q.rest; whole = q.whole ∙ (ap (λ bs. bs ++ q.rest) p.whole ∙ append_assoc xs p.rest q.rest) }

@@ -1,7 +1,8 @@
 -- The block of a proposal that breaks no rule stands on a held parent, of the next round, and there is room for it.
-use Rattle.std.proofs.Common.{◌≡◌, ℕ, ◌+◌, ◌<◌, ◌≤◌, true, false, not, ◌&&◌, eqb, ltb, leb, List, length, is_some, IfSome, Some, None, Option, ap, ◌∙◌, inl, inr, arith}
+use Rattle.std.proofs.Common.{◌≡◌, ℕ, Bool, ◌+◌, ◌<◌, ◌≤◌, true, false, not, ◌&&◌, eqb, ltb, leb, List, length, is_some, IfSome, Some, None, Option, ap, ◌∙◌, inl, inr, arith, rules}
 use Rattle.std.specs.Str.{bytes_eq}
 use Rattle.std.proofs.lemmas.Slice.Eq.{bytes_eq-Decides}
+use Rattle.std.proofs.lemmas.Bool.Decides.{nat_tests}
 use Rattle.std.proofs.lemmas.Bool.{true≢false, and_parts, and_cases, both_ways, cases_Bool, cond-true, cond-false, eqb-true, leb-true, leb-false, not-false, not_from_false}
 use Rattle.digest.specs.Digest.{digest}
 use Rattle.blocks.specs.declared.statement.Statement.{Statement}
@@ -22,19 +23,11 @@ use Rattle.member.specs.Sizes.{sized, group_size, tallies_fit, table_size}
 use Rattle.laws.proofs.Links.{Placed, TableLeft, unheld, holds}
 
 -- the table has 2 places or more, as many as at set up
-tables_sized : (s : Site) (k : Lengths) → sized s k ≡ true → (table_size k.table && eqb k.table s.places) ≡ true
-tables_sized s k e =
-    let own = (and_parts (group_size s.members) _ e).1 in
-    let tallies = (and_parts (ltb 0 s.own && leb s.own s.members) _ own).1 in
-    let rest = (and_parts (tallies_fit s.members k) _ tallies).1 in
-    (and_parts (table_size k.table && eqb k.table s.places) _ rest).0
-
 pub sized_table : (s : Site) (k : Lengths) → sized s k ≡ true → k.table ≡ s.places
-sized_table s k e = eqb-true k.table s.places (and_parts (table_size k.table) (eqb k.table s.places) (tables_sized s k e)).1
+sized_table s k e = grind (arith, nat_tests)
 
 pub sized_some : (s : Site) (k : Lengths) → sized s k ≡ true → 2 ≤ k.table
-sized_some s k e =
-    leb-true 2 k.table (and_parts (leb 2 k.table) (leb k.table 4096) (and_parts (table_size k.table) (eqb k.table s.places) (tables_sized s k e)).0).0
+sized_some s k e = search rules
 
 -- the held block that a statement speaks of
 record Parent (held : ℕ) (t : List Held) (s : Statement) (i : ℕ) : Type 0 where
@@ -45,6 +38,10 @@ parent_of : (held : ℕ) (t : List Held) (s : Statement) (o : Option ℕ) → no
 parent_of held t s None none same f = absurd (true≢false none)
 parent_of held t s (Some i) none same f = record { within = f.within; stated = same_equal s (statement_of (at t i)) (not-false _ same) }
 
+-- a place is free where a new block has room
+free : (held places long : ℕ) (known : Bool) → long ≡ places → known ≡ false → (not known && leb places held) ≡ false → held < long
+free held places long known e new room = grind (arith, nat_tests)
+
 module _ (m : Member) (t : List Held) (b : BlockPart) (s : Statement) (long : length t ≡ m.site.places) (there : missing t m.held s ≡ false)
     (matches : mismatched t m.held s ≡ false) (follow : follows b.head s ≡ true) (room : (not (is_held m t (digest b.bytes)) && leb m.site.places m.held) ≡ false) where
   placed : is_held m t (digest b.bytes) ≡ false → Placed m t (held_block b (place_of t m.held s))
@@ -52,10 +49,7 @@ module _ (m : Member) (t : List Held) (b : BlockPart) (s : Statement) (long : le
       let p = parent_of m.held t s (lookup t m.held s.id) there matches (finds t s.id m.held).right in
       let both = and_parts (eqb b.head.round.0 (s.round.0 + 1)) (bytes_eq b.head.parent s.id) follow in
       record {
-        free = elim (and_cases (not (is_held m t (digest b.bytes))) _ room) [
-          | inl h ↦ absurd (both_ways (not (is_held m t (digest b.bytes))) h (not_from_false (is_held m t (digest b.bytes)) new))
-          | inr h ↦ let some = leb-false m.site.places m.held h in omega arith
-        ];
+        free = free m.held m.site.places (length t) (is_held m t (digest b.bytes)) long new room;
         below = p.within;
         rounds = eqb-true b.head.round.0 (s.round.0 + 1) both.0 ∙ ap (λ x. x.round.0 + 1) p.stated;
         named = (bytes_eq-Decides b.head.parent s.id).0 both.1 ∙ ap (λ x. x.id) p.stated;

@@ -23,7 +23,7 @@ use Rattle.laws.proofs.Rises.{Later, Higher, later_self, higher_self, see_higher
 unchanged : {S : Type 0} (m : Member) (l : Lent S) (Signed : S → Type 0) (carries : Option Statement) (left : Left S) → Outcome m l Signed carries left →
     (e : Refusal) → left.result ≡ Err e → Unchanged m l left
 unchanged m l Signed carries left (refuses x) e is = record { member = refl; lent = refl }
-unchanged m l Signed carries left (accepts a m' l' signed done) e is = let z : ◌≡◌ {A = ℕ} 0 1 = cc in absurd (omega arith)
+unchanged m l Signed carries left (accepts a m' l' signed done) e is = cc
 
 pub refused_changes_nothing_lem : {S C : Type 0} (g : Ghosts S) (k : CoinGhosts C) → RefusedChangesNothing S C g k
 refused_changes_nothing_lem g k coin form m l call = unchanged m l (Signs g form m l call) (carried_by form call) (after g k coin form m l call) (outcome g k coin form m l call)

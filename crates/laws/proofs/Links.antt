@@ -37,7 +37,7 @@ module _ (m : Member) (t : List Held) (links : LinkedMember m t) where
   entry_known : (k i : ℕ) → entry_place t m.chain.last k ≡ Some i → Ancestor t m.chain.last k i
   entry_known k i =
       cond_both (eqb k 0 || ltb (committed_count t m.chain.last) k) None (ancestor t m.chain.last k) (λ o. o ≡ Some i → Ancestor t m.chain.last k i)
-      (λ e q. let z : ◌≡◌ {A = ℕ} 0 1 = cc in absurd (omega arith))
+      (λ e q. cc)
       (λ e q. subst (λ o. IfSome o (Ancestor t m.chain.last k)) q (ancestors t m.chain.last k).right)
 
   -- an entry names its parent
@@ -61,7 +61,7 @@ module _ (m : Member) (t : List Held) (links : LinkedMember m t) where
   chained = record { next = next; first = first }
     where
       next : (k i j : ℕ) → entry_place t m.chain.last k ≡ Some i → entry_place t m.chain.last (k + 1) ≡ Some j → (at t j).head.parent ≡ (at t i).id
-      next zero i j p q = let z : ◌≡◌ {A = ℕ} 0 1 = cc in absurd (omega arith)
+      next zero i j p q = cc
       next (suc k) i j p q =
           let e = known.parents (suc k) j (omega arith) q in
           let same : up t j ≡ i = cc in

@@ -1,5 +1,6 @@
 -- Which certificates are official, from the rules that are not broken.
-use Rattle.std.proofs.Common.{◌≡◌, ℕ, ◌<◌, Bool, true, false, not, ◌||◌, eqb, ltb, leb, ◌⊎◌, List, Some, None, Option, sym, refl, ◌∙◌, inl, inr, arith}
+use Rattle.std.proofs.Common.{◌≡◌, ℕ, ◌<◌, Bool, true, false, not, ◌||◌, eqb, ltb, leb, ◌⊎◌, List, Some, None, Option, sym, refl, ◌∙◌, inl, inr, arith, rules}
+use Rattle.std.proofs.lemmas.Bool.Decides.{nat_tests}
 use Rattle.std.proofs.lemmas.Bool.{both_ways, not-true, not-false, and_parts, and_cases, or_parts, eqb-true, eqb-false, ltb-true, ltb-false, lt-ltb, cases_Bool, cond-true, cond-false}
 use Rattle.blocks.specs.declared.head.Head.{Head}
 use Rattle.blocks.specs.declared.rank.Kind.{Kind}
@@ -16,7 +17,7 @@ use Rattle.laws.specs.Official.{Official, regular, endorsed}
 use Rattle.laws.proofs.Readings.{Tall}
 
 is_winner_lem : (o : Option ℕ) (p : ℕ) → is_winner o p ≡ true → o ≡ Some p
-is_winner_lem None p e = let z : ◌≡◌ {A = ℕ} 0 1 = cc in absurd (omega arith)
+is_winner_lem None p e = cc
 is_winner_lem (Some w) p e = let same = eqb-true w p e in cc
 
 pub cases_kind : (k : Kind) → (k ≡ Regular) ⊎ ((k ≡ Fallback) × (is_fallback k ≡ true))
@@ -25,18 +26,11 @@ cases_kind Fallback = inr (refl, refl)
 
 -- an unendorsed statement is of a view that is past
 pub unendorsed_past : (m : Member) (s : Statement) → unendorsed m s ≡ true → past m s.view ≡ true
-unendorsed_past m s u =
-    (and_parts (ltb s.view.0 m.phase.view.0) _ (and_parts (is_fallback s.kind) _ u).1).0
+unendorsed_past m s u = search rules
 
 module _ (m : Member) (s : Statement) where
   noted : is_fallback s.kind ≡ true → s.view.0 < m.phase.view.0 → unendorsed m s ≡ false → winner_of m s.view.0 ≡ Some s.proposer
-  noted f low u = elim (and_cases (is_fallback s.kind) _ u) [
-    | inl n ↦ absurd (both_ways (is_fallback s.kind) n f)
-    | inr r ↦ elim (and_cases (ltb s.view.0 m.phase.view.0) _ r) [
-      | inl n ↦ absurd (both_ways (ltb s.view.0 m.phase.view.0) n (lt-ltb _ _ low))
-      | inr w ↦ is_winner_lem (winner_of m s.view.0) s.proposer (not-false _ w)
-    ]
-  ]
+  noted f low u = is_winner_lem (winner_of m s.view.0) s.proposer (grind (arith, nat_tests))
 
   -- what is carried, not unendorsed, and if fallback of an earlier view
   pub official : (m' : Member) → (is_fallback s.kind ≡ true → s.view.0 < m.phase.view.0) → unendorsed m s ≡ false → Official m m' (Some s) s
@@ -47,63 +41,27 @@ module _ (m : Member) (s : Statement) where
 
   -- where it is not of this view's fallback
   pub not_this_view : ahead m s.view ≡ false → of_fallback m s ≡ false → is_fallback s.kind ≡ true → s.view.0 < m.phase.view.0
-  not_this_view near other f =
-      let most = ltb-false m.phase.view.0 s.view.0 near in
-      elim (and_cases (is_fallback s.kind) _ other) [
-        | inl n ↦ absurd (both_ways (is_fallback s.kind) n f)
-        | inr n ↦ let apart = eqb-false s.view.0 m.phase.view.0 n in omega (arith, apart)
-      ]
+  not_this_view near other f = grind (arith, nat_tests)
 
 -- a fallback certificate under a regular or height-1 block, or in a timeout, is of an earlier view than that
 opens_below : (v : View) (s : Statement) → opens v s ≡ true → is_fallback s.kind ≡ true → s.view.0 < v.0
-opens_below v s o f = ltb-true s.view.0 v.0 (sym (cond-true (is_fallback s.kind) _ (leb s.view.0 v.0) f) ∙ o)
+opens_below v s o f = grind (arith, nat_tests)
 
 pub in_timeout : (m : Member) (v : View) (s : Statement) (broken : Bool) → ahead m v ≡ false → (not (opens v s) || broken) ≡ false → is_fallback s.kind ≡ true → s.view.0 < m.phase.view.0
-in_timeout m v s broken near rules f =
-    let most = ltb-false m.phase.view.0 v.0 near in
-    let low = opens_below v s (not-false _ (or_parts (not (opens v s)) broken rules).0) f in
-    omega arith
+in_timeout m v s broken near broken_not f = grind (arith, nat_tests)
 
 module _ (m : Member) (n : ℕ) (table : List Held) (h : Head) (s : Statement) (near : ahead m h.view ≡ false) (rules : proposal_breaks n table m.held h s ≡ false) where
   pub following : follows h s ≡ true
-  following =
-      let after_led = (or_parts (not (led n h)) (not (follows h s) || (not (stands h s) || mismatched table m.held s)) rules).1 in
-      not-false _ (or_parts (not (follows h s)) (not (stands h s) || mismatched table m.held s) after_led).0
+  following = grind (arith, nat_tests)
 
   rest : (not (stands h s) || mismatched table m.held s) ≡ false
-  rest =
-      let after_led = (or_parts (not (led n h)) (not (follows h s) || (not (stands h s) || mismatched table m.held s)) rules).1 in
-      (or_parts (not (follows h s)) (not (stands h s) || mismatched table m.held s) after_led).1
+  rest = (or_parts (not (follows h s)) _ (or_parts (not (led n h)) _ rules).1).1
 
   standing : stands h s ≡ true
-  standing = not-false _ (or_parts (not (stands h s)) (mismatched table m.held s) rest).0
+  standing = not-false _ (or_parts (not (stands h s)) _ rest).0
 
   pub matching : mismatched table m.held s ≡ false
-  matching = (or_parts (not (stands h s)) (mismatched table m.held s) rest).1
-
-  -- under a block of this view's fallback above height 1 the certificate is not seen
-  above : Tall h → sees_under m h ≡ true → ltb 1 h.height ≡ true → h.view.0 < m.phase.view.0
-  above tall sees high =
-      let most = ltb-false m.phase.view.0 h.view.0 near in
-      let kind = tall (ltb-true 1 h.height high) in
-      elim (and_cases (is_fallback h.kind) _ (not-true _ sees)) [
-        | inl no_fallback ↦ absurd (both_ways (is_fallback h.kind) no_fallback kind)
-        | inr rest ↦ elim (and_cases (eqb h.view.0 m.phase.view.0) _ rest) [
-          | inl other ↦ let apart = eqb-false h.view.0 m.phase.view.0 other in omega (arith, apart)
-          | inr low ↦ absurd (both_ways (ltb 1 h.height) low high)
-        ]
-      ]
+  matching = (or_parts (not (stands h s)) _ rest).1
 
   pub under_block : Tall h → sees_under m h ≡ true → is_fallback s.kind ≡ true → s.view.0 < m.phase.view.0
-  under_block tall sees f = elim (cases_Bool (ltb 1 h.height)) [
-    | inl high ↦
-        let on : continues h s ≡ true = sym (cond-true (ltb 1 h.height) (continues h s) (opens h.view s) high) ∙ standing in
-        let same = eqb-true s.view.0 h.view.0 (and_parts (eqb s.view.0 h.view.0) _ (and_parts (is_fallback s.kind) _ on).1).0 in
-        let low = above tall sees high in
-        omega arith
-    | inr no_high ↦
-        let on : opens h.view s ≡ true = sym (cond-false (ltb 1 h.height) (continues h s) (opens h.view s) no_high) ∙ standing in
-        let low = opens_below h.view s on f in
-        let most = ltb-false m.phase.view.0 h.view.0 near in
-        omega arith
-  ]
+  under_block tall sees f = let on = standing in grind (arith, nat_tests)

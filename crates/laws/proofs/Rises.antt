@@ -14,7 +14,7 @@ use Rattle.member.specs.declared.state.Chain.{Chain}
 use Rattle.member.specs.declared.state.Member.{Member}
 use Rattle.member.specs.declared.state.Phase.{Phase}
 use Rattle.member.specs.declared.state.Proposed.{Proposed}
-use Rattle.member.specs.declared.state.Row.{Row}
+use Rattle.member.specs.declared.rows.Row.{Row}
 use Rattle.member.specs.Exit.{exit_phase, exit_to}
 use Rattle.member.specs.Propose.{less_proposed}
 use Rattle.member.specs.See.{is_fallback, see, raises}
@@ -52,6 +52,9 @@ see_higher c table s i = record {
 }
 
 -- a regular vote's round is above the voted round
+above_voted : (p : Phase) (c : Chain) (h : Head) (parent : Rank) → votes_regular p c h parent ≡ true → p.voted.0 < h.round.0
+above_voted p c h parent e = grind (arith, nat_tests)
+
 rising : (fallback f r : Bool) (v w : Round) → cond fallback f r ≡ true → (r ≡ true → v.0 < w.0) → v.0 ≤ (cond fallback v w).0
 rising true f r v w e low = omega arith
 rising false f r v w e low = omega (arith, low e)
@@ -59,18 +62,13 @@ rising false f r v w e low = omega (arith, low e)
 pub vote_later : (p : Phase) (c : Chain) (rows : List Row) (h : Head) (parent : Rank) → votes p c rows h parent ≡ true → Later p (voted_phase p h)
 vote_later p c rows h parent e = record {
   views = omega arith;
-  voted = rising (is_fallback h.kind) (votes_fallback p c (row_of rows h.proposer) h parent) (votes_regular p c h parent) p.voted h.round e
-      (λ r.
-      let of_view = (and_parts (is_steady p.stage) _ r).1 in
-      let of_round = (and_parts (eqb h.view.0 p.view.0) _ of_view).1 in
-      let above_voted = (and_parts (eqb h.round.0 c.round.0) _ of_round).1 in
-      ltb-true p.voted.0 h.round.0 (and_parts (ltb p.voted.0 h.round.0) (respects_lock c parent) above_voted).0);
+  voted = rising (is_fallback h.kind) (votes_fallback p c (row_of rows h.proposer) h parent) (votes_regular p c h parent) p.voted h.round e (above_voted p c h parent);
 }
 
 pub exit_later : (p : Phase) (r : Row) → Later p (exit_phase p r)
 exit_later p r = record {
   views = omega arith;
-  voted = cond_both (is_in_fallback p.stage) _ p.voted (λ (v : Round). p.voted.0 ≤ v.0) (λ e. omega arith) (λ e. omega arith);
+  voted = grind (arith, nat_tests);
 }
 
 -- what was proposed last, and who won the views that ended

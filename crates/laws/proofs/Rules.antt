@@ -15,7 +15,7 @@ pub none_broken : (rs : List Rule) → first_broken rs ≡ None → NoneBroken r
 none_broken [] e = tt
 none_broken (r ∷ rs) e =
     cond_both r.broken (Some r.refusal) (first_broken rs) (λ o. o ≡ None → NoneBroken (r ∷ rs))
-    (λ b q. let z : ◌≡◌ {A = ℕ} 0 1 = cc in absurd (omega arith))
+    (λ b q. cc)
     (λ b q. (b, none_broken rs q))
     e
 

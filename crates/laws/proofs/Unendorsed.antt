@@ -1,5 +1,6 @@
 -- A fallback certificate of this view leaves the chain as it was, and an unendorsed one is refused.
 use Rattle.std.proofs.Common.{◌≡◌, ℕ, true, not, List, Some, None, Option, sym, refl, ap, ◌∙◌, subst, arith}
+use Rattle.std.proofs.lemmas.Bool.Decides.{nat_tests}
 use Rattle.std.proofs.lemmas.Bool.{and_parts, both_ways, cond_both, eqb-true, or_right}
 use Rattle.attest.specs.declared.attestor.Attestor.{Ghosts}
 use Rattle.coin.specs.declared.Coin.{Ghosts as CoinGhosts}
@@ -23,7 +24,7 @@ use Rattle.laws.proofs.Officials.{unendorsed_past}
 use Rattle.laws.proofs.Rules.{Broken, here, later, First, first}
 
 never_some : {A : Type 0} (s : A) → None ≡ Some s → ⊥
-never_some s e = let z : ◌≡◌ {A = ℕ} 0 1 = cc in omega arith
+never_some s e = cc
 
 same_some : {A : Type 0} (o : Option A) (s t : A) → o ≡ Some s → o ≡ Some t → s ≡ t
 same_some o s t p q = cc
@@ -32,10 +33,7 @@ same_some o s t p q = cc
 not_official : (m m' : Member) (carries : Option Statement) (s t : Statement) → carries ≡ Some s → of_fallback m s ≡ true → Official m m' carries t → ⊥
 not_official m m' carries s t c f (regular d k) =
     both_ways (is_fallback s.kind) (ap is_fallback (ap (λ x. x.kind) (same_some carries s t c d) ∙ k)) (and_parts (is_fallback s.kind) _ f).0
-not_official m m' carries s t c f (endorsed d k low w) =
-    let same = ap (λ x. x.view.0) (same_some carries s t c d) in
-    let this = eqb-true s.view.0 m.phase.view.0 (and_parts (is_fallback s.kind) _ f).1 in
-    omega arith
+not_official m m' carries s t c f (endorsed d k low w) = let same = ap (λ x. x.view.0) (same_some carries s t c d) in grind (arith, nat_tests)
 not_official m m' carries s t c f (of_winner w d k n) = never_some s (sym d ∙ c)
 
 pub same_chain : (m : Member) (table : List Held) (carries : Option Statement) (m' : Member) (s : Statement) → carries ≡ Some s → of_fallback m s ≡ true →

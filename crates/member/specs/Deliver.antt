@@ -35,7 +35,7 @@ use Rattle.member.specs.declared.types.Refusal.{Refusal}
 use Rattle.member.specs.declared.types.Refusal.TheVariants.{Sizes, Form as BadForm, Ahead, Past, BlockRule, NotHeld, Tag, NotEndorsed, Counted, Collector, OutOfStage, NoRoom, Ended, Fork, Sheet, Unsigned}
 use Rattle.member.specs.declared.state.Chain.{Chain}
 use Rattle.member.specs.declared.state.Member.{Member}
-use Rattle.member.specs.declared.state.Row.{Row}
+use Rattle.member.specs.declared.rows.Row.{Row}
 use Rattle.member.specs.Words.{is_in_fallback}
 use Rattle.member.specs.States.{Tallies, Lent, Left, refused, row_of, with_chain, with_phase, with_rows}
 use Rattle.member.specs.Sizes.{sized, lengths_of}

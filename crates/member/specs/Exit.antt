@@ -9,7 +9,7 @@ use Rattle.member.specs.declared.types.Stage.TheVariants.{Steady, InFallback}
 use Rattle.member.specs.declared.state.Chain.{Chain}
 use Rattle.member.specs.declared.state.Member.{Member}
 use Rattle.member.specs.declared.state.Phase.{Phase}
-use Rattle.member.specs.declared.state.Row.{Row}
+use Rattle.member.specs.declared.rows.Row.{Row}
 use Rattle.member.specs.Words.{is_in_fallback}
 use Rattle.member.specs.States.{row_of, empty_rows}
 use Rattle.member.specs.See.{see, see_shelf, forks, or_last}

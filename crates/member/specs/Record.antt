@@ -2,7 +2,7 @@
 use Rattle.std.specs.Prelude.{ℕ, Bool, true, cond, List, [], Some, None, Option, slice_index_or, slice_set}
 use Rattle.blocks.specs.declared.statement.Statement.{Statement}
 use Rattle.blocks.specs.Layout.{overlay}
-use Rattle.member.specs.declared.state.Row.{Row}
+use Rattle.member.specs.declared.rows.Row.{Row}
 use Rattle.member.specs.States.{row_of, set_row}
 use Rattle.member.specs.See.{raises}
 

@@ -11,7 +11,7 @@ use Rattle.member.specs.declared.types.Refusal.{Refusal}
 use Rattle.member.specs.declared.state.Chain.{Chain}
 use Rattle.member.specs.declared.state.Phase.{Phase}
 use Rattle.member.specs.declared.state.Proposed.{Proposed}
-use Rattle.member.specs.declared.state.Row.{Row}
+use Rattle.member.specs.declared.rows.Row.{Row}
 use Rattle.member.specs.declared.state.Member.{Member}
 
 -- the places of the four tallies

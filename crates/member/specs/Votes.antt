@@ -6,7 +6,7 @@ use Rattle.blocks.specs.declared.statement.Statement.{Statement}
 use Rattle.blocks.specs.Ranks.{leader, less_rank}
 use Rattle.member.specs.declared.state.Chain.{Chain}
 use Rattle.member.specs.declared.state.Phase.{Phase}
-use Rattle.member.specs.declared.state.Row.{Row}
+use Rattle.member.specs.declared.rows.Row.{Row}
 use Rattle.member.specs.Words.{is_steady, is_in_fallback}
 use Rattle.member.specs.See.{is_fallback, next_round}
 use Rattle.member.specs.States.{row_of, set_row}

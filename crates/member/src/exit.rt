@@ -3,7 +3,7 @@ ghost use Rattle.std.specs.Prelude.{◌≡◌, ◌<◌};
 ghost use Rattle.member.specs.Exit.{entered, exit_phase, exit_seeing, exit_to};
 ghost use Rattle.member.specs.States.{with_phase};
 
-use crate::rows::row_of;
+use crate::rows::{Row, row_of};
 use crate::see::place_of;
 use crate::state::*;
 use crate::types::Stage;

@@ -4,10 +4,18 @@ ghost use Rattle.member.specs.Record.{above_recorded, recorded, records, record_
 ghost use Rattle.member.specs.States.{empty_row, row_of};
 ghost use Rattle.member.specs.Votes.{voted_row};
 
-use crate::state::Row;
 use blocks::head::Head;
 use blocks::rank::Round;
 use blocks::statement::Statement;
+
+// What a member keeps of one proposer's fallback chain in its view: the height and the round that it voted for last, and what
+// the highest recorded certificate certifies.
+#[derive(Clone, Copy)]
+pub struct Row {
+    pub height: u8,
+    pub round: Round,
+    pub certificate: Option<Statement>,
+}
 
 impl Row {
     pub(crate) fn empty() -> Row

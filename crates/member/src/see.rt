@@ -8,7 +8,7 @@ use crate::state::*;
 use crate::votes::next_round;
 use blocks::rank::{Kind, View};
 use blocks::statement::Statement;
-use table::committed::commit;
+use table::committed::{commit, committed_count};
 use table::held::Held;
 use table::places::{block_at, find, parent_of};
 
@@ -51,9 +51,7 @@ impl Chain {
     pub(crate) fn newly(&self, table: &[Held], after: &Chain) -> u32
         ensures { result ≡ newly table.now self.now after.now }
     {
-        let was = block_at(table, self.last).head.round.0;
-        let is = block_at(table, after.last).head.round.0;
-        is.saturating_sub(was)
+        committed_count(table, after.last).saturating_sub(committed_count(table, self.last))
     }
 }
 

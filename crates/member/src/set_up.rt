@@ -4,6 +4,7 @@ ghost use Rattle.member.specs.Memories.{lengths_in_mut, SameParts};
 ghost use Rattle.member.specs.SetUp.{fresh, emptied, prepared_table, prepared_shelf, set_up};
 
 use crate::memory::MemoryMut;
+use crate::rows::Row;
 use crate::shelf::shelve;
 use crate::state::*;
 use crate::types::{Refusal, Stage};
@@ -47,12 +48,7 @@ impl Member {
 
     // A fresh member: the own number of n, and the memory that every later call is lent. It empties the tallies, holds genesis
     // at place 0 of the table and puts its certificate at place 0 of the shelf; all else stays.
-    pub fn set_up(
-        own: u8,
-        n: u8,
-        memory: &mut MemoryMut<'_>,
-        out: &[u8],
-    ) -> Result<Member, Refusal>
+    pub fn set_up(own: u8, n: u8, memory: &mut MemoryMut<'_>, out: &[u8]) -> Result<Member, Refusal>
         ensures answer { result ≡ set_up own n (lengths_in_mut memory.old (length out.now)) }
         ensures votes { memory.new.votes.now ≡ (if is_ok result then emptied memory.old.votes.now else memory.old.votes.now) }
         ensures timeouts { memory.new.timeouts.now ≡ (if is_ok result then emptied memory.old.timeouts.now else memory.old.timeouts.now) }

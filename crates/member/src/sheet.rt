@@ -9,8 +9,8 @@ use arrayvec::ArrayString;
 use blocks::layout::put;
 use blocks::rank::Rank;
 use itoa::{Buffer, Integer};
+use table::committed::committed_count;
 use table::held::Held;
-use table::places::block_at;
 
 // The most bytes of a sheet.
 const SHEET_BYTES: usize = 256;
@@ -51,7 +51,7 @@ fn rank_text(rank: Rank) -> ArrayString<RANK_BYTES>
     let mut text = ArrayString::new();
     push_number(&mut text, rank.view.0);
     text.push(',');
-    push_number(&mut text, rank.kind.byte());
+    push_number(&mut text, u8::from(rank.kind));
     text.push(',');
     push_number(&mut text, rank.round.0);
     text
@@ -85,7 +85,6 @@ impl Member {
     fn lines(&self, table: &[Held]) -> Text
         ensures { result.bytes ≡ sheet_text self.now table.now }
     {
-        let committed = block_at(table, self.chain.last).head.round;
         let mut text = ArrayString::new();
         number_line(&mut text, "member", self.site.own);
         number_line(&mut text, "members", self.site.members);
@@ -94,9 +93,17 @@ impl Member {
         number_line(&mut text, "round", self.chain.round.0);
         number_line(&mut text, "voted", self.phase.voted.0);
         push_line(&mut text, "lock", rank_text(self.chain.lock).as_str());
-        push_line(&mut text, "high", rank_text(self.chain.high.rank()).as_str());
+        push_line(
+            &mut text,
+            "high",
+            rank_text(self.chain.high.rank()).as_str(),
+        );
         number_line(&mut text, "blocks", self.held);
-        number_line(&mut text, "committed", committed.0);
+        number_line(
+            &mut text,
+            "committed",
+            committed_count(table, self.chain.last),
+        );
         text
     }
 

@@ -4,20 +4,18 @@ ghost use Rattle.blocks.specs.Layout.{overlay};
 ghost use Rattle.member.specs.Shelf.{certificate_length, shelved};
 
 use blocks::layout::put;
+use blocks::limits::STATEMENT_BYTES;
 use blocks::statement::Statement;
-use wire::form::{Form, quorum};
+use wire::certificate::count_for;
+use wire::form::Form;
 use wire::limits::CERTIFICATE_MOST;
 
 // The bytes of a certificate of the statement.
 pub(crate) fn certificate_length(form: Form, statement: &Statement) -> usize
     ensures { result ≡ certificate_length form statement.now }
 {
-    let count = if statement.proposer == 0 {
-        0
-    } else {
-        quorum(form.members)
-    };
-    44 + count as usize * (1 + form.width as usize)
+    let count = count_for(form.members, statement);
+    STATEMENT_BYTES + 1 + usize::from(count) * (1 + usize::from(form.width))
 }
 
 // The certificate of the statement at a place of the shelf.
@@ -33,8 +31,7 @@ pub(crate) fn shelved<'a>(
     ensures long { length result.now ≡ certificate_length form statement.now }
 {
     let end = certificate_length(form, statement);
-    let certificate = &shelf[place];
-    &certificate[0..end]
+    &shelf[place][..end]
 }
 
 // A certificate's bytes at the start of a place of the shelf.
@@ -43,6 +40,5 @@ pub(crate) fn shelve(shelf: &mut [[u8; CERTIFICATE_MOST]], place: usize, bytes: 
     requires room { length bytes.now ≤ 1925 }
     ensures { shelf.new ≡ slice_set shelf.old place (overlay (slice_index_or shelf.old place []) bytes.now) }
 {
-    let certificate = &mut shelf[place];
-    put(certificate, 0, bytes);
+    put(&mut shelf[place], 0, bytes);
 }

@@ -3,6 +3,7 @@ ghost use Rattle.std.specs.Prelude.{◌≡◌, true};
 ghost use Rattle.member.specs.Sizes.{group_size, table_size, tallies_fit, buffers_fit, sized, Sized};
 
 use crate::state::Site;
+use coin::is_member;
 use wire::limits::OUTGOING_BYTES;
 
 // The fewest and the most places of a block table.
@@ -54,7 +55,7 @@ impl Lengths {
     {
         let n = site.members;
         group_size(n)
-            && (0 < site.own && site.own <= n)
+            && is_member(n, site.own)
             && self.tallies_fit(usize::from(n))
             && (table_size(self.table) && self.table == site.places)
             && self.buffers_fit(n)

@@ -1,4 +1,5 @@
 // A member's state.
+use crate::rows::Row;
 use crate::types::Stage;
 use blocks::rank::{Kind, Rank, Round, View};
 use blocks::statement::Statement;
@@ -34,15 +35,6 @@ pub struct Proposed {
     pub view: View,
     pub kind: Kind,
     pub step: u32,
-}
-
-// What a member keeps of one proposer's fallback chain in its view: the height and the round that it voted for last, and what
-// the highest recorded certificate certifies.
-#[derive(Clone, Copy)]
-pub struct Row {
-    pub height: u8,
-    pub round: Round,
-    pub certificate: Option<Statement>,
 }
 
 #[derive(Clone, Copy)]

@@ -3,7 +3,7 @@ ghost use Rattle.std.specs.Prelude.{◌≡◌};
 ghost use Rattle.member.specs.See.{next_round};
 ghost use Rattle.member.specs.Votes.{respects_lock, votes_regular, votes_fallback, votes};
 
-use crate::rows::row_of;
+use crate::rows::{Row, row_of};
 use crate::state::*;
 use crate::types::Stage;
 use blocks::head::Head;
@@ -38,7 +38,7 @@ fn votes_regular(phase: &Phase, chain: &Chain, head: &Head, parent: &Rank) -> bo
 fn votes_fallback(phase: &Phase, chain: &Chain, row: &Row, head: &Head, parent: &Rank) -> bool
     ensures { result ≡ votes_fallback phase.now chain.now row.now head.now parent.now }
 {
-    let on_chain = if head.height == 1 {
+    let follows = if head.height == 1 {
         chain.respects_lock(parent)
     } else {
         row.round < head.round
@@ -46,7 +46,7 @@ fn votes_fallback(phase: &Phase, chain: &Chain, row: &Row, head: &Head, parent: 
     phase.stage == Stage::InFallback
         && head.view == phase.view
         && row.height < head.height
-        && on_chain
+        && follows
 }
 
 // Whether the member votes for a block whose parent has this rank.

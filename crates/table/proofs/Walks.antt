@@ -1,9 +1,12 @@
 -- The way up, step by step.
-use Rattle.std.proofs.Common.{◌≡◌, ℕ, zero, suc, ◌<◌, ◌≤◌, Bool, true, false, cond, eqb, ltb, List, is_some, Some, None, sym, refl, ap, ◌∙◌, subst, ⊎_elim, arith}
-use Rattle.std.proofs.lemmas.Bool.{eq-eqb, ne_eqb, ltb-true, cond_both, cases_eq}
+use Rattle.std.proofs.Common.{◌≡◌, ℕ, zero, suc, ◌<◌, ◌≤◌, Bool, true, false, cond, eqb, leb, ltb, List, [], ◌∷◌, is_some, Some, None, Option, sym, refl, ap, ◌∙◌, subst, inl, inr, ⊎_elim, arith}
+use Rattle.std.specs.List.{find}
+use Rattle.std.specs.Option.{option_eq, option_map}
+use Rattle.std.proofs.lemmas.Iterator.Adapters.{option_map_id}
+use Rattle.std.proofs.lemmas.Bool.{eq-eqb, ne_eqb, ltb-true, le-leb, lt-leb, cond_both, cases_Bool, cases_eq, cases_lt}
 use Rattle.table.specs.declared.held.Held.{Held}
 use Rattle.table.specs.Places.{at, up}
-use Rattle.table.specs.Ancestry.{first_within, first_up, extends, ancestor, round_at}
+use Rattle.table.specs.Ancestry.{first_within, first_up, extends, ancestor, round_at, way_within, way_up, way_from}
 
 cond_again : {A : Type 0} (b : Bool) (x y : A) → cond b x (cond b x y) ≡ cond b x y
 cond_again true x y = refl
@@ -64,6 +67,38 @@ module _ (t : List Held) where
     first_none zero e z = rw e
     first_none (suc a) e z = absurd (omega arith)
 
+  -- the way up has the root last, and more steps than the place's number change nothing
+  way_enough : (n m i : ℕ) → i ≤ n → i ≤ m → way_within n t i ≡ way_within m t i
+  way_enough zero zero i p q = refl
+  way_enough zero (suc m) zero p q = refl
+  way_enough zero (suc m) (suc i) p q = absurd (omega arith)
+  way_enough (suc n) zero zero p q = refl
+  way_enough (suc n) zero (suc i) p q = absurd (omega arith)
+  way_enough (suc n) (suc m) zero p q = refl
+  way_enough (suc n) (suc m) (suc i) p q = ap (λ w. suc i ∷ w) (way_enough n m (up t (suc i)) (up_low (suc i) n p) (up_low (suc i) m q))
+
+  pub way_above : (a : ℕ) → (a ≡ 0 → ⊥) → way_up t a ≡ a ∷ way_up t (up t a)
+  way_above zero pos = absurd (pos refl)
+  way_above (suc a) pos = ap (λ w. suc a ∷ w) (way_enough a (up t (suc a)) (up t (suc a)) (up_low (suc a) a (omega arith)) (omega arith))
+
+  -- a step of the walk
+  pub way_last : {from on : Option ℕ} (i : ℕ) → from ≡ Some i → i ≡ 0 → on ≡ None → way_from t from ≡ i ∷ way_from t on
+  way_last {from} {on} i e z n = ap (way_from t) e ∙ (subst (λ j. way_up t j ≡ j ∷ []) (sym z) refl ∙ ap (λ o. i ∷ way_from t o) (sym n))
+
+  pub way_on : {from on : Option ℕ} (i p : ℕ) → from ≡ Some i → (i ≡ 0 → ⊥) → p ≡ up t i → on ≡ Some p → way_from t from ≡ i ∷ way_from t on
+  way_on {from} {on} i p e pos u n = ap (way_from t) e ∙ (way_above i pos ∙ ap (λ o. i ∷ way_from t o) (sym (n ∙ ap Some u)))
+
+  pub find_way : (test : ℕ → Bool) (a : ℕ) → find test (way_up t a) ≡ first_up t test a
+  find_way test a = along (λ i. find test (way_up t i) ≡ first_up t test i) refl step a
+    where
+      step : (i : ℕ) → 0 < i → find test (way_up t (up t i)) ≡ first_up t test (up t i) → find test (way_up t i) ≡ first_up t test i
+      step i pos below =
+          ap (find test) (way_above i (λ e. omega arith))
+          ∙ ⊎_elim (λ e. rw e (sym (first_here test i e))) (λ e. rw e (below ∙ sym (first_above test i e pos))) (cases_Bool (test i))
+
+  pub found_way : (test : ℕ → Bool) (a : ℕ) {r : Option ℕ} → option_map (λ x. x) r ≡ find test (way_up t a) → r ≡ first_up t test a
+  found_way test a {r} e = sym (option_map_id r) ∙ (e ∙ find_way test a)
+
   pub extends_same : (a b : ℕ) → a ≡ b → extends t a b ≡ true
   extends_same a b e = ap is_some (first_here (λ i. eqb i b) a (eq-eqb a b e))
 
@@ -79,6 +114,21 @@ module _ (t : List Held) where
           let lower = up_lower i pos in
           ⊎_elim (λ e. extends_same i b e ∙ sym (eq-eqb i b e))
           (λ ne. extends_above i b ne pos ∙ (below (omega arith) ∙ (ne_eqb (up t i) b (λ e. omega arith) ∙ sym (ne_eqb i b ne)))) (cases_eq i b)
+
+  -- the first place on the way up that is not above b is b, if b is on the way
+  pub extends_found : (a b : ℕ) → option_eq eqb (first_up t (λ i. leb i b) a) (Some b) ≡ extends t a b
+  extends_found a b = along (λ i. option_eq eqb (first_up t (λ j. leb j b) i) (Some b) ≡ extends t i b) (low 0 (omega arith)) step a
+    where
+      low : (i : ℕ) → i ≤ b → option_eq eqb (first_up t (λ j. leb j b) i) (Some b) ≡ extends t i b
+      low i le = ap (λ o. option_eq eqb o (Some b)) (first_here (λ j. leb j b) i (le-leb i b le)) ∙ sym (extends_low i b le)
+
+      step : (i : ℕ) → 0 < i → option_eq eqb (first_up t (λ j. leb j b) (up t i)) (Some b) ≡ extends t (up t i) b → option_eq eqb (first_up t (λ j. leb j b) i) (Some b) ≡ extends t i b
+      step i pos below = elim (cases_lt b i) [
+        | inl above ↦
+            ap (λ o. option_eq eqb o (Some b)) (first_above (λ j. leb j b) i (lt-leb i b above) pos)
+            ∙ (below ∙ sym (extends_above i b (λ e. omega arith) pos))
+        | inr le ↦ low i le
+      ]
 
   pub ancestor_here : (a round : ℕ) → round_at t a ≡ round → ancestor t a round ≡ Some a
   ancestor_here a round e = first_here (λ i. eqb (round_at t i) round) a (eq-eqb (round_at t a) round e)

@@ -1,16 +1,13 @@
-use Rattle.std.proofs.Common.{sym, ap, ◌∙◌, arith}
-use Rattle.table.specs.declared.held.Held.{Held}
-use Rattle.table.specs.Ancestry.{ancestor}
-use Rattle.table.proofs.Walks.{ancestor_here, ancestor_above}
+use Rattle.std.proofs.Common.{rules, eqb}
+use Rattle.std.proofs.lemmas.Iterator.Consumers.{YieldsList-from_first}
+use Rattle.std.proofs.lemmas.Iterator.Search.{find_from_yields_List}
+use borrow.Author.Tests.{tests}
+use Rattle.table.specs.Ancestry.{places_left, round_at, way_up}
+use Rattle.table.proofs.Walks.{found_way}
 use Rattle.table.proofs.ancestry.ancestor.Goals as goal
-
-pub loop-round-preserved : goal.loop-round-preserved
-loop-round-preserved c =
-    let read = ap (λ (b : Held). b.head.round.0) c.block_at.ensures in
-    let s = ancestor_above c.args.table.now c.loop-round.at c.args.round.0 (λ e. c.loop-round-test.true (read ∙ e)) (omega arith) in
-    ap (λ i. ancestor c.args.table.now i c.args.round.0) c.parent_of-at.ensures.place ∙ (sym s ∙ c.loop-round.invariant)
 
 pub returns : goal.returns
 returns c =
-    let same = sym (ap (λ (b : Held). b.head.round.0) c.block_at.ensures) ∙ c.loop-round-test.false in
-    sym (ancestor_here c.args.table.now c.loop-round.at c.args.round.0 same) ∙ c.loop-round.invariant
+    found_way c.args.table.now (λ i. eqb (round_at c.args.table.now i) c.args.round.0) c.args.a
+    (find_from_yields_List (λ i. eqb (round_at c.args.table.now i) c.args.round.0) c.find.new.self _ c.find.result c.find.ensures.ran
+    (YieldsList-from_first (λ x. x) places_left {s = c.of.result} (way_up c.args.table.now c.args.a) c.of.ensures) (λ x b q k. search (rules, tests)))
