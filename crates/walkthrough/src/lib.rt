@@ -3,6 +3,7 @@
 
 pub mod chapters;
 pub mod fault;
+mod fields;
 pub mod hex;
 pub mod judging;
 pub mod lot;

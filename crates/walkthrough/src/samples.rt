@@ -32,10 +32,10 @@ const SAMPLE_MOST: usize = 97;
 // The bytes of genesis' certificate, all of them 0.
 const GENESIS: [u8; 44] = [0; 44];
 
-// The view of the samples, and the values of its coin for members 1 and 2.
+// The view of the samples, and the shares of its coin that members 1 and 2 have.
 const VIEW: View = View(0);
 
-const VALUES: [u16; 2] = [103, 106];
+const SHARES: [(u8, u16); 2] = [(1, 103), (2, 106)];
 
 // What the messages are made of.
 #[derive(Clone, Copy)]
@@ -47,6 +47,11 @@ pub struct Samples {
     certificate: [u8; CERTIFICATE_BYTES],
     timeouts: [SignerEntry; 3],
     shares: [ShareEntry; 2],
+}
+
+// Bytes that are a part of no message yet.
+fn whole(bytes: &[u8]) -> Part<'_> {
+    Part { bytes, at: 0 }
 }
 
 impl Samples {
@@ -64,7 +69,7 @@ impl Samples {
             votes,
             certificate: certificate(&statement, &votes),
             timeouts: quorum_entries(&mut book, &timeout_words(VIEW))?,
-            shares: electing_entries(&mut book, VIEW, VALUES)?,
+            shares: electing_entries(&mut book, VIEW, SHARES)?,
         })
     }
 
@@ -72,10 +77,7 @@ impl Samples {
     fn certified(&self) -> Certificate<'_> {
         Certificate {
             statement: self.statement,
-            part: Part {
-                bytes: &self.certificate,
-                at: 0,
-            },
+            part: whole(&self.certificate),
         }
     }
 
@@ -84,17 +86,11 @@ impl Samples {
         Message::Proposal(Proposal {
             block: Block {
                 head: self.head,
-                part: Part {
-                    bytes: &self.block,
-                    at: 0,
-                },
+                part: whole(&self.block),
             },
             certificate: Certificate {
                 statement: Statement::genesis(),
-                part: Part {
-                    bytes: &GENESIS,
-                    at: 0,
-                },
+                part: whole(&GENESIS),
             },
         })
     }

@@ -40,13 +40,13 @@ pub fn quorum_entries(book: &mut Book<'_>, words: &[u8]) -> Result<[SignerEntry;
     })
 }
 
-// The entries of the shares of members 1 and 2, which the dealer signs.
+// The entries of two shares, each of a member and a value, which the dealer signs.
 pub fn electing_entries(
     book: &mut Book<'_>,
     view: View,
-    values: [u16; 2],
+    shares: [(u8, u16); 2],
 ) -> Result<[ShareEntry; 2], Fault> {
-    [(1, values[0]), (2, values[1])].try_map(|(member, value)| -> Result<ShareEntry, Fault> {
+    shares.try_map(|(member, value)| -> Result<ShareEntry, Fault> {
         let [a, b, c, d] = sign_as(book, 0, &share_words(view, member, value))?;
         let [high, low] = value.to_be_bytes();
         Ok([member, high, low, a, b, c, d])

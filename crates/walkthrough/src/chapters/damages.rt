@@ -5,7 +5,10 @@ use crate::sample::block;
 use crate::samples::{FORM, Samples, written};
 use blocks::head::Head;
 use blocks::layout::put;
-use std::alloc::{AllocError, Global};
+use blocks::limits::HEAD_BYTES;
+use member::types::Refusal;
+use std::alloc::Global;
+use std::fmt;
 use wire::kind::MessageKind;
 
 // Bytes that are put at a place of the sample of a kind.
@@ -75,40 +78,45 @@ pub fn chapter(heap: Global) -> Result<String, Fault> {
     for damage in DAMAGES {
         let mut bytes = written(heap, &samples.message(damage.kind))?;
         put(&mut bytes, damage.at, damage.bytes);
-        write_answer(&mut text, damage.told, &bytes)?;
+        writeln!(text, "  {}: {}", damage.told, Judged(judge(FORM, &bytes)))?;
     }
     let mut vote = written(heap, &samples.message(MessageKind::Vote))?;
     vote.extend_from_slice(&[0])?;
-    write_answer(&mut text, "a vote with a spare byte", &vote)?;
-    write_answer(&mut text, "no bytes at all", &[])?;
-    write_answer(
-        &mut text,
-        "a proposal with a payload of 192 bytes",
-        &proposal(heap, 192)?,
-    )?;
-    write_answer(
-        &mut text,
-        "a proposal with a payload of 193 bytes",
-        &proposal(heap, 193)?,
+    writeln!(
+        text,
+        "  a vote with a spare byte: {}
+  no bytes at all: {}
+  a proposal with a payload of 192 bytes: {}
+  a proposal with a payload of 193 bytes: {}",
+        Judged(judge(FORM, &vote)),
+        Judged(judge(FORM, &[])),
+        Judged(judge(FORM, &proposal(heap, 192)?)),
+        Judged(judge(FORM, &proposal(heap, 193)?))
     )?;
     Ok(text)
 }
 
-fn write_answer(text: &mut String, told: &str, bytes: &[u8]) -> Result<(), AllocError> {
-    match judge(FORM, bytes) {
-        Ok(kind) => writeln!(text, "  {told}: read as kind {}", u8::from(kind)),
-        Err(refusal) => writeln!(text, "  {told}: refusal {}", u8::from(refusal)),
+// What a message's form is judged to be.
+#[derive(Clone, Copy)]
+struct Judged(Result<MessageKind, Refusal>);
+
+impl fmt::Display for Judged {
+    fn fmt<W: fmt::Write>(&self, f: &mut fmt::Formatter<W>) -> fmt::Result {
+        match self.0 {
+            Ok(kind) => write!(f, "read as kind {}", u8::from(kind)),
+            Err(refusal) => write!(f, "refusal {}", u8::from(refusal)),
+        }
     }
 }
 
-// A proposal on genesis with a payload of so many zeros.
+// A proposal with a payload of so many zeros, on genesis, whose certificate is 44 zeros.
 fn proposal(heap: Global, payload: u16) -> Result<Vec<u8>, Fault> {
     let block = block()?;
     let head = Head {
         payload,
         ..block.head
     };
-    let mut bytes = vec![in heap; 0; 90 + payload as usize]?;
+    let mut bytes = vec![in heap; 0; 1 + HEAD_BYTES + payload as usize + 44]?;
     let at = put(&mut bytes, 0, &[u8::from(MessageKind::Proposal)]);
     put(&mut bytes, at, &head.bytes());
     Ok(bytes)

@@ -7,7 +7,8 @@ use attest::entry::Entry;
 use member::memory::MemoryMut;
 use member::state::Member;
 use member::types::{Answer, Refusal};
-use std::alloc::{AllocError, Global};
+use std::alloc::Global;
+use std::fmt;
 use table::held::{GENESIS, Held};
 use wire::limits::{CERTIFICATE_MOST, OUTGOING_BYTES};
 
@@ -20,13 +21,13 @@ pub fn chapter(heap: Global) -> Result<String, Fault> {
     let mut text = String::new(heap);
     writeln!(text, "8. Four members on one book")?;
     for own in 1..=MEMBERS {
-        write_member(&mut text, &mut book, own)?;
+        play(&mut text, &mut book, own)?;
     }
     Ok(text)
 }
 
 // Sets a member up, shows its sheet, and lets member 1 propose a lot and member 3's timer run out.
-fn write_member(text: &mut String, book: &mut Book<'_>, own: u8) -> Result<(), Fault> {
+fn play(text: &mut String, book: &mut Book<'_>, own: u8) -> Result<(), Fault> {
     let mut memory = MemoryMut {
         votes: &mut [None; 4],
         timeouts: &mut [None; 4],
@@ -41,16 +42,19 @@ fn write_member(text: &mut String, book: &mut Book<'_>, own: u8) -> Result<(), F
     write_sheet(text, &member, memory.table)?;
     if own == 1 {
         let answer = member.propose(book, memory.shared(), &LOT.payload(), &mut out);
-        write_answer(
+        writeln!(
             text,
-            "is the leader of round 1 and proposes a lot",
-            answer,
-            &out,
+            "    it is the leader of round 1 and proposes a lot: {}",
+            Answered(answer, &out)
         )?;
     }
     if own == 3 {
         let answer = member.timer(book, memory.shared(), &mut out);
-        write_answer(text, "has waited long enough and times out", answer, &out)?;
+        writeln!(
+            text,
+            "    it has waited long enough and times out: {}",
+            Answered(answer, &out)
+        )?;
         write_sheet(text, &member, memory.table)?;
     }
     Ok(())
@@ -70,22 +74,20 @@ fn write_sheet(text: &mut String, member: &Member, table: &[Held]) -> Result<(),
 }
 
 // What a call answered, and the message that it wrote.
-fn write_answer(
-    text: &mut String,
-    what: &str,
-    answer: Result<Answer, Refusal>,
-    out: &[u8],
-) -> Result<(), AllocError> {
-    match answer {
-        Ok(Answer { length, .. }) => {
-            let message = &out[..length.min(out.len())];
-            writeln!(
-                text,
-                "    it {what}: a message of {length} bytes to all
+#[derive(Clone, Copy)]
+struct Answered<'a>(Result<Answer, Refusal>, &'a [u8]);
+
+impl fmt::Display for Answered<'_> {
+    fn fmt<W: fmt::Write>(&self, f: &mut fmt::Formatter<W>) -> fmt::Result {
+        let Answered(answer, out) = *self;
+        match answer {
+            Ok(Answer { length, .. }) => write!(
+                f,
+                "a message of {length} bytes to all
     {}",
-                Hex(message)
-            )
+                Hex(out.get(..length).unwrap_or(out))
+            ),
+            Err(refusal) => write!(f, "refused with {}", u8::from(refusal)),
         }
-        Err(refusal) => writeln!(text, "    it {what}: refused with {}", u8::from(refusal)),
     }
 }
