@@ -19,7 +19,7 @@ pub const LOT: Lot = Lot {
 
 // The size of the group.
 pub fn group() -> Result<GroupSize, Fault> {
-    GroupSize::try_from(MEMBERS).map_err(|_| Fault::Step)
+    GroupSize::try_from(MEMBERS).or(Err(Fault::Step))
 }
 
 // The block that carries the lot.

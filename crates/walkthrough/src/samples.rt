@@ -150,7 +150,7 @@ impl Samples {
 // The bytes of a sample.
 pub fn written(heap: Global, message: &Message<'_>) -> Result<Vec<u8>, Fault> {
     let mut bytes = vec![in heap; 0; SAMPLE_MOST]?;
-    let length = write(FORM, message, &mut bytes).map_err(|_| Fault::Step)?;
+    let length = write(FORM, message, &mut bytes).or(Err(Fault::Step))?;
     bytes.truncate(length);
     Ok(bytes)
 }

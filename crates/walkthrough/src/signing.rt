@@ -26,8 +26,8 @@ pub const CERTIFICATE_BYTES: usize = 59;
 // Hands the book to the member and signs the words for it.
 pub fn sign_as(book: &mut Book<'_>, member: u8, words: &[u8]) -> Result<Tag, Fault> {
     let mut room = [0; TAG_ROOM];
-    book.hand_to(member).map_err(|_| Fault::Step)?;
-    book.sign(words, &mut room).map_err(|_| Fault::Step)?;
+    book.hand_to(member).or(Err(Fault::Step))?;
+    book.sign(words, &mut room).or(Err(Fault::Step))?;
     let [a, b, c, d, ..] = room;
     Ok([a, b, c, d])
 }

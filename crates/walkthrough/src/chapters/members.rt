@@ -37,8 +37,8 @@ fn play(text: &mut String, book: &mut Book<'_>, own: u8) -> Result<(), Fault> {
         shelf: &mut [[0; CERTIFICATE_MOST]; 5],
     };
     let mut out = [0; OUTGOING_BYTES];
-    let mut member = Member::set_up(own, MEMBERS, &mut memory, &out).map_err(|_| Fault::Step)?;
-    book.hand_to(own).map_err(|_| Fault::Step)?;
+    let mut member = Member::set_up(own, MEMBERS, &mut memory, &out).or(Err(Fault::Step))?;
+    book.hand_to(own).or(Err(Fault::Step))?;
     write_sheet(text, &member, memory.table)?;
     if own == 1 {
         let answer = member.propose(book, memory.shared(), &LOT.payload(), &mut out);
@@ -63,8 +63,8 @@ fn play(text: &mut String, book: &mut Book<'_>, own: u8) -> Result<(), Fault> {
 // The member's sheet, its lines one after another.
 fn write_sheet(text: &mut String, member: &Member, table: &[Held]) -> Result<(), Fault> {
     let mut room = [0; 256];
-    let length = member.sheet(table, &mut room).map_err(|_| Fault::Step)?;
-    let sheet = str::from_utf8(&room[..length]).map_err(|_| Fault::Step)?;
+    let length = member.sheet(table, &mut room).or(Err(Fault::Step))?;
+    let sheet = str::from_utf8(&room[..length]).or(Err(Fault::Step))?;
     write!(text, " ")?;
     for line in sheet.lines() {
         write!(text, " {line}")?;

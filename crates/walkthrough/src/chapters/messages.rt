@@ -27,7 +27,7 @@ pub fn chapter(heap: Global) -> Result<String, Fault> {
     )?;
     for kind in KINDS {
         let bytes = written(heap, &samples.message(kind))?;
-        let message = read(FORM, &bytes).map_err(|_| Fault::Step)?;
+        let message = read(FORM, &bytes).or(Err(Fault::Step))?;
         write!(
             text,
             "  {} {}, {} bytes

@@ -49,7 +49,7 @@ fn tag_of(member: u8, words: &[u8]) -> Result<[u8; TAG_BYTES], Fault> {
     let mut room = [0; TAG_ROOM];
     keys_of(member)?
         .sign(words, &mut room)
-        .map_err(|_| Fault::Step)?;
+        .or(Err(Fault::Step))?;
     room.first_chunk().copied().ok_or(Fault::Step)
 }
 
