@@ -34,7 +34,6 @@ module _ {Block : Type 0} (r : Run Block) (lawful : Lawful r) {last : Block} (th
   -- a voter for the last of the three keeps its lock in later views
   later_view : view last < view c → rank r (grandparent r last) ≼ rank r (parent c)
   later_view later =
-      let v = three.view_last in
       elim (cases_lt 1 (height c)) [
         | inl high ↦ let k = (votable r lawful qc).continues high in omega arith
         | inr low ↦ elim (voted_in_order r lawful three.certificate_last qc) [

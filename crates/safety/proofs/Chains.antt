@@ -58,7 +58,6 @@ module _ {Block : Type 0} (r : Run Block) (lawful : Lawful r) where
   pub parent_ranks_below : {x : Block} → Certificate r x → rank r (parent x) ≼ rank r x
   parent_ranks_below {x} q =
       let w = votable r lawful q in
-      let next = w.round_follows in
       elim (cases_lt 1 (height x)) [
         | inl high ↦ let k = w.continues high in omega arith
         | inr low ↦ let k = w.opens low in
