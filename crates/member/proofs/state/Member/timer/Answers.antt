@@ -1,6 +1,10 @@
-use Rattle.std.proofs.Common.{rules}
-use Rattle.member.proofs.Signed.{at_start}
+use Rattle.std.proofs.Common.{◌≡◌, ℕ, List, ◌++◌, length, take, sym, ap, ◌∙◌, rules}
+use Rattle.std.proofs.lemmas.List.{take_at}
 use Rattle.member.proofs.state.Member.timer.Goals as goal
+
+-- a tag that was signed stands at the start of the room
+at_start : (room tag rest : List ℕ) (n k : ℕ) → n ≡ k → length tag ≡ k → room ≡ tag ++ rest → take n room ≡ tag
+at_start room tag rest n k e w is = ap (take n) is ∙ take_at tag rest n (w ∙ sym e)
 
 pub returns : goal.returns
 returns g c =
