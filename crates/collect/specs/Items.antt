@@ -1,5 +1,5 @@
 -- The items of the four tallies: when one ranks above another, when two are alike, and what each adds to a certificate.
-use Rattle.std.specs.Prelude.{ℕ, ◌+◌, Bool, cond, List, [], ◌∷◌, ◌++◌, take, replicate, Option, ◌==◌, nat_lt}
+use Rattle.std.specs.Prelude.{ℕ, ◌+◌, Bool, cond, List, [], ◌∷◌, ◌++◌, take, replicate, Some, None, Option, ◌==◌, nat_lt}
 use Rattle.attest.specs.Limits.{tag_room}
 use Rattle.blocks.specs.Layout.{fits, pasted}
 use Rattle.digest.specs.Bytes.{bytes16}
@@ -59,6 +59,14 @@ timeout_tail width x = take width x.tag
 
 abbrev pub share_tail : ℕ → KeptShare → List ℕ
 share_tail width x = bytes16 x.value ++ take width x.tag
+
+-- the same for any item that has a tag and may have a value
+abbrev pub value_bytes : Option ℕ → List ℕ
+value_bytes None = []
+value_bytes (Some value) = bytes16 value
+
+abbrev pub tail_of : {T : Type 0} → (T → Option ℕ) → (T → List ℕ) → ℕ → T → List ℕ
+tail_of value tag width x = value_bytes (value x) ++ take width (tag x)
 
 -- an entry for each item of a walk; a member's number is its place + 1
 abbrev pub entries_from : {T : Type 0} → (T → List ℕ) → List (ℕ × T) → List Entry

@@ -1,4 +1,3 @@
 pub mod Items
 pub mod Build
 pub mod Laws
-pub mod VoteItemLemmas

@@ -1,10 +1,8 @@
 // Certificates, built of the items that a tally keeps.
-ghost use Rattle.std.specs.Prelude.{◌≡◌, ℕ, ◌+◌, ◌*◌, ◌<◌, ◌≤◌, List, ◌∷◌, ◌++◌, length, take, if◌then◌else◌, nat_le};
+ghost use Rattle.std.specs.Prelude.{◌≡◌, ℕ, ◌+◌, ◌<◌, ◌≤◌, List, ◌∷◌, length, take, Some, None, Option, nat_le};
 ghost use Rattle.attest.specs.Limits.{tag_room};
-ghost use Rattle.blocks.specs.Layout.{fits, pasted, overlay};
-ghost use Rattle.digest.specs.Bytes.{bytes16};
-ghost use Rattle.tally.specs.Walk.{kept_alike};
-ghost use Rattle.collect.specs.Items.{vote_alike, vote_tail, timeout_tail, share_tail};
+ghost use Rattle.blocks.specs.Layout.{pasted};
+ghost use Rattle.collect.specs.Items.{tail_of};
 ghost use Rattle.collect.specs.Build.{places_most, tail_most, built_bytes, certificate_of, end_at, written_at, count_at_start, written_at_start};
 
 use crate::items::{KeptShare, KeptTimeout, KeptVote};
@@ -15,23 +13,59 @@ use tally::{Item, count_alike, kept_alike};
 // The most places: a member's number is its place + 1 and has one byte.
 pub(crate) const PLACES_MOST: usize = 255;
 
-// The most bytes that follow the member in an entry: a value and the longest tag.
-const TAIL_MOST: usize = 2 + TAG_ROOM;
-
-// An item that adds an entry to a certificate: its member's number and, after it, a tail.
+// An item that adds an entry to a certificate: its member's number, then its value, if it has one, and its tag.
 pub trait Entered: Item {
-    // the tail, with tags of `width` bytes
-    ghost tail: { ℕ → Self → List ℕ };
+    ghost value: { Self → Option ℕ };
 
-    // The bytes of the tail.
-    fn tail_length(&self, width: usize) -> usize
-        ensures value { result ≡ length (tail width self.now) }
-        ensures most { result ≤ tail_most };
+    ghost tag: { Self → List ℕ };
 
-    // Writes the tail at a place, as `put` does.
-    fn put_tail(&self, width: usize, out: &mut [u8], at: usize) -> usize
-        ensures bytes { out.new ≡ (if fits out.old at (tail width self.now) then pasted out.old at (tail width self.now) else out.old) }
-        ensures end { result ≡ (if fits out.old at (tail width self.now) then at + length (tail width self.now) else at) };
+    fn value(&self) -> Option<u16>
+        ensures { result ≡ value self.now };
+
+    fn tag(&self) -> &[u8; TAG_ROOM]
+        ensures { result.now ≡ tag self.now };
+}
+
+impl Entered for KeptVote {
+    ghost value = { λ _. None };
+
+    ghost tag = { λ x. x.tag };
+
+    fn value(&self) -> Option<u16> {
+        None
+    }
+
+    fn tag(&self) -> &[u8; TAG_ROOM] {
+        &self.tag
+    }
+}
+
+impl Entered for KeptTimeout {
+    ghost value = { λ _. None };
+
+    ghost tag = { λ x. x.tag };
+
+    fn value(&self) -> Option<u16> {
+        None
+    }
+
+    fn tag(&self) -> &[u8; TAG_ROOM] {
+        &self.tag
+    }
+}
+
+impl Entered for KeptShare {
+    ghost value = { λ x. Some x.value };
+
+    ghost tag = { λ x. x.tag };
+
+    fn value(&self) -> Option<u16> {
+        Some(self.value)
+    }
+
+    fn tag(&self) -> &[u8; TAG_ROOM] {
+        &self.tag
+    }
 }
 
 // The first `width` bytes of a kept tag; all of it, where it is not so long.
@@ -39,59 +73,15 @@ fn start_of(tag: &[u8; TAG_ROOM], width: usize) -> &[u8]
     ensures start { result.now ≡ take width tag.now }
     ensures most { length result.now ≤ tag_room }
 {
-    if width < tag.len() {
-        &tag[0..width]
-    } else {
-        tag
-    }
+    &tag[..width.min(TAG_ROOM)]
 }
 
-// Writes a value and a tag to the start of the room for a tail, and says where they end.
-fn lay_out(value: u16, tag: &[u8], room: &mut [u8; TAIL_MOST]) -> usize
-    requires { length tag.now ≤ tag_room }
-    ensures bytes { take result room.new ≡ bytes16 value ++ tag.now }
-    ensures end { result ≤ tail_most }
+// The bytes that follow the member in an item's entry.
+fn tail_length<T: Entered>(kept: &T, width: usize) -> usize
+    ensures value { result ≡ length (tail_of T.Entered.value T.Entered.tag width kept.now) }
+    ensures most { result ≤ tail_most }
 {
-    let end = put(room, 0, &value.to_be_bytes());
-    put(room, end, tag)
-}
-
-impl Entered for KeptVote {
-    ghost tail = { vote_tail };
-
-    fn tail_length(&self, width: usize) -> usize {
-        start_of(&self.tag, width).len()
-    }
-
-    fn put_tail(&self, width: usize, out: &mut [u8], at: usize) -> usize {
-        put(out, at, start_of(&self.tag, width))
-    }
-}
-
-impl Entered for KeptTimeout {
-    ghost tail = { timeout_tail };
-
-    fn tail_length(&self, width: usize) -> usize {
-        start_of(&self.tag, width).len()
-    }
-
-    fn put_tail(&self, width: usize, out: &mut [u8], at: usize) -> usize {
-        put(out, at, start_of(&self.tag, width))
-    }
-}
-
-impl Entered for KeptShare {
-    ghost tail = { share_tail };
-
-    fn tail_length(&self, width: usize) -> usize {
-        2 + start_of(&self.tag, width).len()
-    }
-
-    fn put_tail(&self, width: usize, out: &mut [u8], at: usize) -> usize {
-        let mut tail = [0; TAIL_MOST];
-        let end = lay_out(self.value, start_of(&self.tag, width), &mut tail);
-        put(out, at, &tail[0..end])
-    }
+    kept.value().map_or(0, |_| 2) + start_of(kept.tag(), width).len()
 }
 
 // The number of the member that has the place.
@@ -105,21 +95,24 @@ pub(crate) fn number_of(place: usize) -> u8
 // Writes the entry of an item that a place keeps to a place of the buffer, and says where it ends.
 fn put_entry<T: Entered>(place: usize, kept: &T, width: usize, out: &mut [u8], at: usize) -> usize
     requires number { place < places_most }
-    requires room { at + (1 + length (T.Entered.tail width kept.now)) ≤ length out.old }
-    ensures bytes { out.new ≡ pasted out.old at ((place + 1) ∷ T.Entered.tail width kept.now) }
-    ensures end { result ≡ at + (1 + length (T.Entered.tail width kept.now)) }
+    requires room { at + (1 + length (tail_of T.Entered.value T.Entered.tag width kept.now)) ≤ length out.old }
+    ensures bytes { out.new ≡ pasted out.old at ((place + 1) ∷ tail_of T.Entered.value T.Entered.tag width kept.now) }
+    ensures end { result ≡ at + (1 + length (tail_of T.Entered.value T.Entered.tag width kept.now)) }
 {
-    let end = put(out, at, &[number_of(place)]);
-    kept.put_tail(width, out, end)
+    let mut end = put(out, at, &[number_of(place)]);
+    if let Some(value) = kept.value() {
+        end = put(out, end, &value.to_be_bytes());
+    }
+    put(out, end, start_of(kept.tag(), width))
 }
 
 // The bytes of the entries of the kept items that are alike to this one.
 fn entries_length<T: Entered>(places: &[Option<T>], item: &T, width: usize) -> usize
     requires { length places.now ≤ places_most }
-    ensures { result ≡ length (built_bytes T.Item.alike (T.Entered.tail width) item.now places.now) }
+    ensures { result ≡ length (built_bytes T.Item.alike (tail_of T.Entered.value T.Entered.tag width) item.now places.now) }
 {
     kept_alike(places, item)
-        .map(|(_, kept)| 1 + kept.tail_length(width))
+        .map(|(_, kept)| 1 + tail_length(kept, width))
         .sum()
 }
 
@@ -139,9 +132,9 @@ fn enter_all<T: Entered>(
     at: usize,
 ) -> usize
     requires numbers { length places.now ≤ places_most }
-    requires room { at + length (built_bytes T.Item.alike (T.Entered.tail width) item.now places.now) ≤ length out.old }
-    ensures end { result ≡ at + length (built_bytes T.Item.alike (T.Entered.tail width) item.now places.now) }
-    ensures bytes { out.new ≡ pasted out.old at (built_bytes T.Item.alike (T.Entered.tail width) item.now places.now) }
+    requires room { at + length (built_bytes T.Item.alike (tail_of T.Entered.value T.Entered.tag width) item.now places.now) ≤ length out.old }
+    ensures end { result ≡ at + length (built_bytes T.Item.alike (tail_of T.Entered.value T.Entered.tag width) item.now places.now) }
+    ensures bytes { out.new ≡ pasted out.old at (built_bytes T.Item.alike (tail_of T.Entered.value T.Entered.tag width) item.now places.now) }
 {
     let mut end = at;
     for (place, kept) in kept_alike(places, item) {
@@ -159,8 +152,8 @@ pub fn write_entries<T: Entered>(
     out: &mut [u8],
     at: usize,
 ) -> Option<usize>
-    ensures end { result ≡ end_at places.now out.old at (built_bytes T.Item.alike (T.Entered.tail width) item.now places.now) }
-    ensures bytes { out.new ≡ written_at places.now out.old at (built_bytes T.Item.alike (T.Entered.tail width) item.now places.now) }
+    ensures end { result ≡ end_at places.now out.old at (built_bytes T.Item.alike (tail_of T.Entered.value T.Entered.tag width) item.now places.now) }
+    ensures bytes { out.new ≡ written_at places.now out.old at (built_bytes T.Item.alike (tail_of T.Entered.value T.Entered.tag width) item.now places.now) }
 {
     if places.len() > PLACES_MOST {
         return None;

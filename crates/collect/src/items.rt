@@ -1,19 +1,20 @@
 // The items of the four tallies. A tag takes the room of the longest; how much of it is used the tag's width says.
-ghost use Rattle.collect.specs.Items.{vote_above, vote_alike, timeout_above, timeout_alike, finished_above, finished_alike, share_above, share_alike, later, same_view, kept};
+ghost use Rattle.collect.specs.Items.{vote_above, vote_alike, kept};
 ghost use Rattle.std.specs.Prelude.{◌≡◌, true};
-ghost use Rattle.std.proofs.Common.{subst, rules};
+ghost use Rattle.std.proofs.Common.{subst, arith};
+ghost use Rattle.std.proofs.lemmas.Bool.Decides.{nat_tests};
 ghost use Rattle.blocks.specs.Ranks.{less_rank};
 ghost use Rattle.blocks.specs.Sameness.{same_statement};
 ghost use Rattle.blocks.specs.Statements.{rank_of};
+ghost use Rattle.blocks.proofs.Ordered.{ordered};
 ghost use Rattle.blocks.proofs.SameStatements.{same_itself, same_equal};
 ghost use Rattle.tally.specs.ByKey.{by_key};
-ghost use Rattle.collect.specs.VoteItemLemmas.{irreflexive, transitive, graded};
 
 use attest::attestor::TAG_ROOM;
 use blocks::layout::put;
 use blocks::rank::View;
 use blocks::statement::Statement;
-use tally::Item;
+use tally::{ByNumber, Item};
 
 // A vote, by its signer's place. Votes are alike if they say the same, and rank as the block that they are for.
 #[derive(Clone, Copy)]
@@ -43,18 +44,6 @@ pub struct KeptShare {
     pub tag: [u8; TAG_ROOM],
 }
 
-fn later(v: View, w: View) -> bool
-    ensures { result ≡ later v w }
-{
-    v.0 > w.0
-}
-
-fn same_view(v: View, w: View) -> bool
-    ensures { result ≡ same_view v w }
-{
-    v.0 == w.0
-}
-
 impl Item for KeptVote {
     ghost above = { vote_above };
 
@@ -65,14 +54,12 @@ impl Item for KeptVote {
         (λ a b. less_rank (rank_of b) (rank_of a))
         same_statement
         (λ a b. (same_equal a b, λ e. subst (λ s. same_statement a s ≡ true) e (same_itself a)))
-        (λ a. irreflexive (rank_of a))
-        (λ a b c. transitive (rank_of a) (rank_of b) (rank_of c))
-        (λ a b c. graded (rank_of a) (rank_of b) (rank_of c)) };
+        (λ a. ordered.irreflexive (rank_of a))
+        (λ a b c ab bc. ordered.transitive (rank_of c) (rank_of b) (rank_of a) bc ab)
+        (λ a b c ac bc. Prim.grind (arith, nat_tests)) };
 
     fn ranks_above(&self, other: &KeptVote) -> bool {
-        let mine = self.statement.rank();
-        let theirs = other.statement.rank();
-        theirs.below(&mine)
+        other.statement.rank() < self.statement.rank()
     }
 
     fn is_like(&self, other: &KeptVote) -> bool {
@@ -80,51 +67,27 @@ impl Item for KeptVote {
     }
 }
 
-impl Item for KeptTimeout {
-    ghost above = { timeout_above };
+impl ByNumber for KeptTimeout {
+    ghost number = { λ x. x.view.0 };
 
-    ghost alike = { timeout_alike };
-
-    ghost likeness = { Prim.search rules };
-
-    fn ranks_above(&self, other: &KeptTimeout) -> bool {
-        later(self.view, other.view)
-    }
-
-    fn is_like(&self, other: &KeptTimeout) -> bool {
-        same_view(self.view, other.view)
+    fn number(&self) -> u32 {
+        self.view.0
     }
 }
 
-impl Item for Finished {
-    ghost above = { finished_above };
+impl ByNumber for Finished {
+    ghost number = { λ x. x.view.0 };
 
-    ghost alike = { finished_alike };
-
-    ghost likeness = { Prim.search rules };
-
-    fn ranks_above(&self, other: &Finished) -> bool {
-        later(self.view, other.view)
-    }
-
-    fn is_like(&self, other: &Finished) -> bool {
-        same_view(self.view, other.view)
+    fn number(&self) -> u32 {
+        self.view.0
     }
 }
 
-impl Item for KeptShare {
-    ghost above = { share_above };
+impl ByNumber for KeptShare {
+    ghost number = { λ x. x.view.0 };
 
-    ghost alike = { share_alike };
-
-    ghost likeness = { Prim.search rules };
-
-    fn ranks_above(&self, other: &KeptShare) -> bool {
-        later(self.view, other.view)
-    }
-
-    fn is_like(&self, other: &KeptShare) -> bool {
-        same_view(self.view, other.view)
+    fn number(&self) -> u32 {
+        self.view.0
     }
 }
 

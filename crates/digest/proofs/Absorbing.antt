@@ -52,17 +52,6 @@ absorbed_more h now more took bytes had =
 pub absorbs : (h : Sha256) (more : List ℕ) (now : Sha256) → Took h more now → Absorbs h more now
 absorbs h more now took = record { first = absorbed_more h now more took []; next = absorbed_more h now more took }
 
-pub absorbed_one : (state block : List ℕ) → length block ≡ 64 → state ≡ compression initial block
-    → Absorbed (record { state = state; partial = block; length = 64 }) block
-absorbed_one state block long e =
-    let one : 1 ≡ length block / 64 = omega arith in
-    let none : length block % 64 ≡ 0 = omega arith in
-    record {
-      blocks = e ∙ one_chained initial block long ∙ ap (chained initial block) one;
-      rest = ap (λ (i : ℕ). take i block) none ∙ sym (drop_all (64 * (length block / 64)) block (omega arith));
-      count = omega arith;
-    }
-
 pub took_hold : (h : Sha256) (more p : List ℕ) → h.length % 64 + length more < 64 → length h.partial ≡ 64
     → p ≡ take (h.length % 64) h.partial ++ (more ++ drop (h.length % 64 + length more) h.partial)
     → Took h more (record { state = h.state; partial = p; length = (h.length + length more) % 2 ^ 64 })

@@ -8,7 +8,6 @@ use Rattle.safety.proofs.Ranks.{≼_refl, ≼_trans}
 use Rattle.history.specs.States.{State}
 use Rattle.history.specs.Effects.{after_regular_vote, after_fallback_vote}
 use Rattle.history.specs.Moves.{RespectsLock, MayVoteRegular, MayVoteFallback}
-use Rattle.history.proofs.Stages.{not_steady}
 use Rattle.history.proofs.Rows.{row_put}
 use Rattle.history.proofs.Memory.{Remembers, Remembered}
 use Rattle.history.proofs.Keeps.{row_stays, in_this_view}
@@ -39,12 +38,12 @@ module _ {Block : Type 0} (r : Run Block) (s : State Block) (b : Block) where
     pub regular_in_order : (x : Block) → Remembered r s x → VotesInOrder r x b
     regular_in_order x m = record {
       views_never_fall = omega arith;
-      no_regular_after_fallback = λ v f. absurd (not_steady may.in_steady (m.in_fallback f (omega arith)));
-      rounds_rise = λ g h. omega (arith, m.voted_regular g, may.new_round);
+      no_regular_after_fallback = λ v f. let e = m.in_fallback f (omega arith) in absurd (cc);
+      rounds_rise = λ g h. omega arith;
       heights_rise = λ f g v p. absurd (omega arith);
       lock_kept = λ o p. locks m may.lock o;
       exit_lock_kept = λ c e o v. exit_locks m may.lock c e (omega arith);
-      exit_round_kept = λ f e g v. omega (arith, m.exit_voted f e (omega arith), may.new_round);
+      exit_round_kept = λ f e g v. omega arith;
     }
 
     pub regular_remembers : (x : Block) → Remembered r s x → Remembered r (after_regular_vote r s b) x

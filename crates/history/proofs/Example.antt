@@ -1,10 +1,11 @@
 -- Four members, of which the fourth is dishonest, and one chain: a regular block, two fallback blocks of the winner of view 0, and a regular
 -- block of view 1. A block is its round. Each honest member makes the same moves.
-use Rattle.std.proofs.Common.{ℕ, ◌-◌, ◌/◌, ◌%◌, ◌≤◌, ltb, List, [], ◌∷◌, refl, inl, inr, arith}
+use Rattle.std.proofs.Common.{ℕ, ◌-◌, ◌/◌, ◌%◌, ◌≤◌, List, [], ◌∷◌, refl, inr, arith}
 use Rattle.safety.specs.Lists.{◌∈◌}
 use Rattle.safety.specs.Runs.{Run}
 use Rattle.safety.specs.Certificates.{Certified, Official, DirectlyCommitted}
 use Rattle.safety.specs.Rules.{Votable}
+use Rattle.safety.proofs.Line.{line, certified_in_line, official_in_line}
 use Rattle.history.specs.States.{State}
 use Rattle.history.specs.Moves.{
   sees,
@@ -19,40 +20,21 @@ use Rattle.history.specs.Moves.{
   ◌then◌,
 }
 use Rattle.history.specs.Theorems.{SomeRunMoves}
-use Rattle.std.proofs.lemmas.Bool.{cases_eq}
 
 abbrev cast : List ℕ
 cast = 1 ∷ 2 ∷ 3 ∷ 4 ∷ []
 
 abbrev run : Run ℕ
-run = record {
-  committee = record { members = 4; weight = λ m. 1; honest = λ m. ltb m 4; faults = 1 };
-  genesis = 0;
-  parent = λ b. b - 1;
-  view = λ b. b / 4;
-  round = λ b. b;
-  proposer = λ b. 1;
-  height = λ b. (b - 1) % 3;
-  winner = λ v. 1;
-  votes = λ m. cast;
-}
+run = line (λ b. b / 4) (λ b. (b - 1) % 3) cast
 
 cast_from : (b : ℕ) → 1 ≤ b → b ≤ 4 → b ∈ cast
 cast_from b low high = grind arith
 
 certified : (b : ℕ) → b ≤ 4 → Certified run b
-certified b high =
-    elim (cases_eq b 0) [
-      | inl e ↦ inl e
-      | inr some ↦ inr (record {
-        signers = 1 ∷ 2 ∷ 3 ∷ [];
-        quorum = record { are_members = λ m i. grind arith; distinct = omega arith; enough = omega arith };
-        voted = λ m i h. cast_from b (omega arith) high;
-      })
-    ]
+certified b high = certified_in_line _ _ cast b (λ low. cast_from b low high)
 
 official : (b : ℕ) → b ≤ 4 → Official run b
-official b high = record { certified = certified b high; by_winner = λ f. refl }
+official b high = official_in_line _ _ cast b (λ low. cast_from b low high)
 
 votable : (b : ℕ) → 1 ≤ b → b ≤ 4 → Votable run b
 votable b low high = record {

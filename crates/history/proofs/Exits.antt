@@ -34,7 +34,7 @@ module _ {Block : Type 0} (r : Run Block) where
     exit_voted f e now =
         let row = s.rows (proposer x) in
         let counts = row_counts s.stage s.voted_round row.voted_round (m.in_fallback f now) in
-        subst (λ row. round x ≤ voted_after s.stage s.voted_round row.voted_round) (winner_row e now) (omega (arith, m.row_round f now))
+        subst (λ row. round x ≤ voted_after s.stage s.voted_round row.voted_round) (winner_row e now) (omega arith)
 
     exit_locked : RowsRecorded r s → Continuing r x → ByWinner r x → view x ≡ s.view → ExitLocked r x (after_exit r s).lock
     exit_locked rows c e now =

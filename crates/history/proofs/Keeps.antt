@@ -33,12 +33,12 @@ module _ {Block : Type 0} (r : Run Block) {v voted voted' : ℕ} {stage stage' :
   in_this_view stays up = record {
     reached = m.reached;
     in_fallback = λ f e. stays (m.in_fallback f e);
-    voted_regular = λ g. omega (arith, m.voted_regular g);
-    row_height = λ f e. omega (arith, m.row_height f e, up.heights);
+    voted_regular = λ g. omega arith;
+    row_height = λ f e. omega arith;
     row_round = λ f e. up.rounds f (m.row_height f e) (m.row_round f e);
     row_covers = λ c e. up.covers (m.row_covers c e);
     locked = λ o. ≼_trans (m.locked o) lock_up;
-    exit_voted = λ f e p. omega (arith, m.exit_voted f e p);
+    exit_voted = λ f e p. omega arith;
     exit_locked = λ c e p. exit_locked_on r lock_up (m.exit_locked c e p);
   }
 
@@ -47,14 +47,14 @@ module _ {Block : Type 0} (r : Run Block) {v voted voted' : ℕ} {stage stage' :
   in_later_view later exit_voted exit_locked = record {
     reached = omega arith;
     in_fallback = λ f e. absurd (omega arith);
-    voted_regular = λ g. omega (arith, m.voted_regular g);
+    voted_regular = λ g. omega arith;
     row_height = λ f e. absurd (omega arith);
     row_round = λ f e. absurd (omega arith);
     row_covers = λ c e. absurd (omega arith);
     locked = λ o. ≼_trans (m.locked o) lock_up;
     exit_voted = λ f e p.
         elim (cases_lt (view x) v) [
-          | inl past ↦ omega (arith, m.exit_voted f e past)
+          | inl past ↦ omega arith
           | inr now ↦ exit_voted f e (omega arith)
         ];
     exit_locked = λ c e p.

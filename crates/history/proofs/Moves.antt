@@ -7,7 +7,6 @@ use Rattle.safety.proofs.Ranks.{≼_refl}
 use Rattle.history.specs.States.{State}
 use Rattle.history.specs.Moves.{Move, sees, records, times_out, enters_fallback, votes_regular, votes_fallback, exits, others}
 use Rattle.history.proofs.Ranks.{higher_first}
-use Rattle.history.proofs.Stages.{not_steady}
 use Rattle.history.proofs.Memory.{Remembered, RowsRecorded}
 use Rattle.history.proofs.Keeps.{row_stays, in_this_view}
 use Rattle.history.proofs.Updates.{update_recorded, record_remembers, record_recorded}
@@ -44,7 +43,7 @@ module _ {Block : Type 0} (r : Run Block) where
   keeps (sees c may) rows = casts_none (λ x m. in_this_view r m (omega arith) (higher_first _ _) (λ e. e) (row_stays r)) rows
   keeps {s} (records c may) rows = casts_none (record_remembers r s c) (record_recorded r s c may rows)
   keeps (times_out e) rows =
-      casts_none (λ x m. in_this_view r m (omega arith) (≼_refl _) (λ f. absurd (not_steady e f)) (row_stays r)) rows
+      casts_none (λ x m. in_this_view r m (omega arith) (≼_refl _) (λ f. absurd (cc)) (row_stays r)) rows
   keeps (enters_fallback e) rows = casts_none (λ x m. in_this_view r m (omega arith) (≼_refl _) (λ f. refl) (row_stays r)) rows
   keeps {s} (votes_regular b may) rows =
       casts_one (regular_remembers r s b may) rows

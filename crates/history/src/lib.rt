@@ -11,6 +11,7 @@ ghost use Rattle.history.specs.Theorems.{
 };
 
 // the votes of every history of moves keep the rules
+#[tactic(auto, using(crate::proofs::Histories::history_keeps_the_rules_lem))]
 pub fn history_keeps_the_rules<Block>() -> u8
     ensures { HistoryKeepsTheRules Block }
 {
@@ -18,6 +19,7 @@ pub fn history_keeps_the_rules<Block>() -> u8
 }
 
 // where each honest member makes only its moves, the run is lawful
+#[tactic(auto, using(crate::proofs::Histories::moves_keep_the_rules_lem))]
 pub fn moves_keep_the_rules<Block>() -> u8
     ensures { MovesKeepTheRules Block }
 {
@@ -25,6 +27,7 @@ pub fn moves_keep_the_rules<Block>() -> u8
 }
 
 // and so of two committed blocks one extends the other
+#[tactic(auto, using(crate::proofs::Histories::moves_keep_one_chain_lem))]
 pub fn moves_keep_one_chain<Block>() -> u8
     ensures { OneChain Block ByMoves }
 {
@@ -32,6 +35,7 @@ pub fn moves_keep_one_chain<Block>() -> u8
 }
 
 // the assumptions can be met
+#[tactic(auto, using(crate::proofs::Example::some_run_moves_lem))]
 pub fn some_run_moves() -> u8
     ensures { SomeRunMoves }
 {

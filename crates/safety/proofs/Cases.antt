@@ -34,13 +34,12 @@ module _ {Block : Type 0} (r : Run Block) (lawful : Lawful r) {last : Block} (th
   -- a voter for the last of the three keeps its lock in later views
   later_view : view last < view c → rank r (grandparent r last) ≼ rank r (parent c)
   later_view later =
-      let v = three.view_last in
       elim (cases_lt 1 (height c)) [
-        | inl high ↦ let k = (votable r lawful qc).continues high in omega (arith, k.same_view)
+        | inl high ↦ let k = (votable r lawful qc).continues high in omega arith
         | inr low ↦ elim (voted_in_order r lawful three.certificate_last qc) [
           | inl e ↦ absurd (omega (arith, ap view e))
           | inr (inl o) ↦ locked r lawful three o low later
-          | inr (inr o) ↦ absurd (omega (arith, o.views_never_fall))
+          | inr (inr o) ↦ absurd (omega arith)
         ]
       ]
 
@@ -58,8 +57,8 @@ module _ {Block : Type 0} (r : Run Block) (lawful : Lawful r) {last : Block} (th
             let earlier : view a.block < view c = earlier_view a.below (omega arith) in
             elim (voted_in_order r lawful (fallback_certificate r lawful a.official.certified f) three.certificate_first) [
               | inl e ↦ absurd (omega (arith, ap height e))
-              | inr (inl o) ↦ absurd (omega (arith, o.exit_round_kept f (a.official.by_winner f) first_regular (omega arith)))
-              | inr (inr o) ↦ absurd (omega (arith, o.views_never_fall))
+              | inr (inl o) ↦ absurd (omega arith)
+              | inr (inr o) ↦ absurd (omega arith)
             ]
       ]
 
@@ -105,11 +104,11 @@ module _ {Block : Type 0} (r : Run Block) (lawful : Lawful r) {last : Block} (th
       let mid_regular = parent_regular r lawful three.certificate_last reg (omega arith) in
       let first_regular = parent_regular r lawful three.certificate_mid mid_regular (omega arith) in
       elim (cases_lt 1 (height c)) [
-        | inl high ↦ let k = (votable r lawful qc).continues high in omega (arith, k.same_view, k.one_below)
+        | inl high ↦ let k = (votable r lawful qc).continues high in omega arith
         | inr low ↦ elim (voted_in_order r lawful three.certificate_last qc) [
           | inl e ↦ absurd (omega (arith, ap height e))
           | inr (inl o) ↦ o.lock_kept (omega arith) low
-          | inr (inr o) ↦ absurd (omega (arith, o.no_regular_after_fallback (omega arith) fc))
+          | inr (inr o) ↦ absurd (omega arith)
         ]
       ]
 
@@ -120,7 +119,7 @@ module _ {Block : Type 0} (r : Run Block) (lawful : Lawful r) {last : Block} (th
       elim (cases_lt (view last) (view c)) [
         | inl later ↦ inl (later_view later)
         | inr no_later ↦
-            let v : view c ≡ view (grandparent r last) = omega (arith, le.views) in
+            let v : view c ≡ view (grandparent r last) = omega arith in
             elim (cases_lt 0 (height c)) [
               | inr none ↦ inr (regular_in_view (omega arith) v le)
               | inl fc ↦ elim (cases_lt 0 (height last)) [

@@ -58,11 +58,10 @@ module _ {Block : Type 0} (r : Run Block) (lawful : Lawful r) where
   pub parent_ranks_below : {x : Block} → Certificate r x → rank r (parent x) ≼ rank r x
   parent_ranks_below {x} q =
       let w = votable r lawful q in
-      let next = w.round_follows in
       elim (cases_lt 1 (height x)) [
         | inl high ↦ let k = w.continues high in omega arith
         | inr low ↦ let k = w.opens low in
-            elim (cases_lt 0 (height (parent x))) [ inl f ↦ omega (arith, k.fallback_is_past f, k.no_later_view) | inr none ↦ omega (arith, k.no_later_view) ]
+            elim (cases_lt 0 (height (parent x))) [ inl f ↦ omega arith | inr none ↦ omega arith ]
       ]
 
   -- an official ancestor of a given round
@@ -141,7 +140,7 @@ module _ {Block : Type 0} (r : Run Block) (lawful : Lawful r) where
   link (suc d) k {x} pos c e =
       let q = fallback_certificate c (omega arith) in
       let s = (votable r lawful q).continues (omega arith) in
-      link_over q s (link d k pos s.certified (omega (arith, s.one_below)))
+      link_over q s (link d k pos s.certified (omega arith))
 
   -- two blocks of one fallback chain: the higher extends the lower, and their rounds differ as their heights
   pub same_chain : {x y : Block} → Certified r x → Certified r y → Fallback r y → view x ≡ view y → proposer x ≡ proposer y →

@@ -22,8 +22,8 @@ module _ {Block : Type 0} (r : Run Block) (lawful : Lawful r) where
         | inl g ↦
             let v = genesis_view r lawful g in
             let h = genesis_regular r lawful g in
-            let k = le.kinds (omega (arith, le.views)) in
-            absurd (omega (arith, le.rounds (omega (arith, le.views)) (omega arith), genesis_round r lawful g, round_positive r lawful q))
+            let k = le.kinds (omega arith) in
+            absurd (omega (arith, le.rounds (omega arith) (omega arith), genesis_round r lawful g, round_positive r lawful q))
       ]
 
   -- by induction on a bound of the round of c

@@ -1,28 +1,18 @@
 -- A lawful run: four members, of which the fourth is dishonest, and one chain. Each view has a regular block and then the three fallback
 -- blocks of its winner. A block is its round.
-use Rattle.std.proofs.Common.{◌≡◌, ℕ, ◌+◌, ◌-◌, ◌/◌, ◌%◌, ◌<◌, ◌≤◌, ltb, List, [], ◌∷◌, refl, inl, inr, arith}
+use Rattle.std.proofs.Common.{◌≡◌, ℕ, ◌+◌, ◌-◌, ◌/◌, ◌%◌, ◌<◌, ◌≤◌, List, [], ◌∷◌, refl, arith}
 use Rattle.safety.specs.Lists.{◌∈◌, Before}
 use Rattle.safety.specs.Runs.{Run}
 use Rattle.safety.specs.Certificates.{Certified, Official, DirectlyCommitted}
 use Rattle.safety.specs.Rules.{Votable, VotesInOrder}
 use Rattle.safety.specs.Theorems.{SomeRunCommits}
-use Rattle.std.proofs.lemmas.Bool.{cases_eq}
+use Rattle.safety.proofs.Line.{line, certified_in_line, official_in_line}
 
 abbrev cast : List ℕ
 cast = 1 ∷ 2 ∷ 3 ∷ 4 ∷ 5 ∷ 6 ∷ 7 ∷ []
 
 abbrev run : Run ℕ
-run = record {
-  committee = record { members = 4; weight = λ m. 1; honest = λ m. ltb m 4; faults = 1 };
-  genesis = 0;
-  parent = λ b. b - 1;
-  view = λ b. (b - 1) / 4;
-  round = λ b. b;
-  proposer = λ b. 1;
-  height = λ b. (b - 1) % 4;
-  winner = λ v. 1;
-  votes = λ m. cast;
-}
+run = line (λ b. (b - 1) / 4) (λ b. (b - 1) % 4) cast
 
 cast_from : (b : ℕ) → 1 ≤ b → b ≤ 7 → b ∈ cast
 cast_from b low high = grind arith
@@ -34,18 +24,10 @@ cast_rises : (x y : ℕ) → Before cast x y → (1 ≤ x) × (x < y) × (y ≤ 
 cast_rises x y o = grind arith
 
 certified : (b : ℕ) → b ≤ 7 → Certified run b
-certified b high =
-    elim (cases_eq b 0) [
-      | inl e ↦ inl e
-      | inr some ↦ inr (record {
-        signers = 1 ∷ 2 ∷ 3 ∷ [];
-        quorum = record { are_members = λ m i. grind arith; distinct = omega arith; enough = omega arith };
-        voted = λ m i h. cast_from b (omega arith) high;
-      })
-    ]
+certified b high = certified_in_line _ _ cast b (λ low. cast_from b low high)
 
 official : (b : ℕ) → b ≤ 7 → Official run b
-official b high = record { certified = certified b high; by_winner = λ f. refl }
+official b high = official_in_line _ _ cast b (λ low. cast_from b low high)
 
 votable : (b : ℕ) → 1 ≤ b → b ≤ 7 → Votable run b
 votable b low high = record {

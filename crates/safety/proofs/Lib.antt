@@ -7,5 +7,6 @@ pub mod Chains
 mod ThreeChains
 mod Cases
 pub mod Commits
+pub mod Line
 mod Example
 pub mod Counts

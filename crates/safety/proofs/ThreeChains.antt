@@ -32,12 +32,12 @@ module _ {Block : Type 0} (r : Run Block) (lawful : Lawful r) {last : Block} (th
       let k = (votable r lawful three.certificate_last).continues high in
       let mid_above = (votable r lawful three.certificate_mid).round_follows in
       let view_mid = three.view_mid in
-      let rounds : round (parent last) ≤ round s = covers.rounds (omega (arith, k.same_view)) (omega (arith, k.one_below)) in
+      let rounds : round (parent last) ≤ round s = covers.rounds (omega arith) (omega arith) in
       elim (cases_lt (height (parent last)) (height s)) [
         | inl higher ↦
             let w = votable r lawful (fallback_certificate r lawful cs fs) in
-            let t = w.continues (omega (arith, k.one_below)) in
-            omega (arith, w.round_follows, t.same_view, t.one_below, k.same_view)
+            let t = w.continues (omega arith) in
+            omega arith
         | inr lower ↦
             let same_view = k.same_view ∙ sym v in
             let same_proposer = k.same_proposer ∙ sym p in

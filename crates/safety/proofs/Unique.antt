@@ -13,8 +13,8 @@ one_regular_per_round_lem Block r lawful x y (inr qx) (inl gy) rx ry same =
 one_regular_per_round_lem Block r lawful x y (inr qx) (inr qy) rx ry same =
     elim (voted_in_order r lawful qx qy) [
       | inl e ↦ e
-      | inr (inl o) ↦ absurd (omega (arith, o.rounds_rise rx ry))
-      | inr (inr o) ↦ absurd (omega (arith, o.rounds_rise ry rx))
+      | inr (inl o) ↦ absurd (omega arith)
+      | inr (inr o) ↦ absurd (omega arith)
     ]
 
 pub one_fallback_per_height_lem : (Block : Type 0) → OneFallbackPerHeight Block Lawful
@@ -23,6 +23,6 @@ one_fallback_per_height_lem Block r lawful x y (inr qx) (inl gy) fx fy v p h = a
 one_fallback_per_height_lem Block r lawful x y (inr qx) (inr qy) fx fy v p h =
     elim (voted_in_order r lawful qx qy) [
       | inl e ↦ e
-      | inr (inl o) ↦ absurd (omega (arith, o.heights_rise fx fy v p))
-      | inr (inr o) ↦ absurd (omega (arith, o.heights_rise fy fx (sym v) (sym p)))
+      | inr (inl o) ↦ absurd (omega arith)
+      | inr (inr o) ↦ absurd (omega arith)
     ]

@@ -16,6 +16,7 @@ ghost use Rattle.safety.specs.Theorems.{
 };
 
 // two quorums have an honest member in common
+#[tactic(auto, using(crate::proofs::Quorums::quorums_meet_lem))]
 pub fn quorums_meet() -> u8
     ensures { QuorumsMeet }
 {
@@ -23,6 +24,7 @@ pub fn quorums_meet() -> u8
 }
 
 // how many members are a quorum where votes are counted, of 3 * faults + 1
+#[tactic(auto, using(crate::proofs::Counts::counts_a_quorum))]
 pub fn counted_quorum(faults: u8) -> u16
     ensures { CountsAQuorum faults result }
 {
@@ -30,6 +32,7 @@ pub fn counted_quorum(faults: u8) -> u16
 }
 
 // two blocks with certificates have an honest voter in common
+#[tactic(auto, using(crate::proofs::Voters::common_voter_lem))]
 pub fn common_voter<Block>() -> u8
     ensures { CommonVoter Block Lawful }
 {
@@ -51,6 +54,7 @@ pub fn one_fallback_per_height<Block>() -> u8
 }
 
 // every official block that ranks no lower than a directly committed one extends it
+#[tactic(auto, using(crate::proofs::Commits::commits_are_final_lem))]
 pub fn commits_are_final<Block>() -> u8
     ensures { CommitsAreFinal Block Lawful }
 {
@@ -58,6 +62,7 @@ pub fn commits_are_final<Block>() -> u8
 }
 
 // of two committed blocks one extends the other
+#[tactic(auto, using(crate::proofs::Commits::one_chain_lem))]
 pub fn one_chain<Block>() -> u8
     ensures { OneChain Block Lawful }
 {
@@ -72,6 +77,7 @@ pub fn one_commit_per_round<Block>() -> u8
 }
 
 // the assumptions can be met, with commits in two views
+#[tactic(auto, using(crate::proofs::Example::some_run_commits_lem))]
 pub fn some_run_commits() -> u8
     ensures { SomeRunCommits }
 {

@@ -10,5 +10,5 @@ mod tests;
 
 pub use laws::{tallies_are_lawful, third_reaches};
 pub use likeness::Item;
-pub use numbers::Numbered;
+pub use numbers::{ByNumber, Numbered};
 pub use places::{Alike, Refused, Tally, clear, count_alike, judge, kept_alike};

@@ -2,8 +2,6 @@
 ghost use Rattle.std.specs.Prelude.{◌≡◌};
 ghost use Rattle.walkthrough.specs.Lots.{lot_bytes};
 
-use blocks::layout::put;
-
 // The bytes of a lot.
 pub const LOT_BYTES: usize = 7;
 
@@ -19,9 +17,8 @@ impl Lot {
     pub fn payload(&self) -> [u8; LOT_BYTES]
         ensures { result ≡ lot_bytes self.now }
     {
-        let mut payload = [self.house; LOT_BYTES];
-        put(&mut payload, 1, &self.number.to_be_bytes());
-        put(&mut payload, 5, &self.sacks.to_be_bytes());
-        payload
+        let [a, b, c, d] = self.number.to_be_bytes();
+        let [high, low] = self.sacks.to_be_bytes();
+        [self.house, a, b, c, d, high, low]
     }
 }

@@ -5,6 +5,7 @@ ghost use Rattle.walkthrough.specs.Sample.{demonstration_key};
 use crate::fault::Fault;
 use crate::lot::Lot;
 use crate::lot_block::LotBlock;
+use attest::group::GroupSize;
 use attest::pair_keys::PairKeys;
 use attest::parts::Key;
 
@@ -15,6 +16,11 @@ pub const LOT: Lot = Lot {
     number: 20_261_117,
     sacks: 40,
 };
+
+// The size of the group.
+pub fn group() -> Result<GroupSize, Fault> {
+    GroupSize::try_from(MEMBERS).map_err(|_| Fault::Step)
+}
 
 // The block that carries the lot.
 pub fn block() -> Result<LotBlock, Fault> {
@@ -30,18 +36,7 @@ pub fn demonstration_key(signer: u8, receiver: u8) -> Key
 
 // The keys of one of the four members.
 pub fn keys_of(member: u8) -> Result<PairKeys, Fault> {
-    let sending = [
-        demonstration_key(member, 1),
-        demonstration_key(member, 2),
-        demonstration_key(member, 3),
-        demonstration_key(member, 4),
-    ];
-    let receiving = [
-        demonstration_key(0, member),
-        demonstration_key(1, member),
-        demonstration_key(2, member),
-        demonstration_key(3, member),
-        demonstration_key(4, member),
-    ];
+    let sending = [1, 2, 3, 4].map(|receiver| demonstration_key(member, receiver));
+    let receiving = [0, 1, 2, 3, 4].map(|signer| demonstration_key(signer, member));
     PairKeys::new(member, &sending, &receiving).ok_or(Fault::Step)
 }

@@ -1,18 +1,19 @@
 // One message of each kind, of four members that sign in a book.
 use crate::fault::Fault;
 use crate::lot_block::LOT_BLOCK_BYTES;
-use crate::sample::{MEMBERS, block};
+use crate::sample::{MEMBERS, block, group};
 use crate::signing::{
-    CERTIFICATE_BYTES, ELECTING_BYTES, QUORUM_BYTES, certificate, electing_entries, quorum_entries,
+    CERTIFICATE_BYTES, ShareEntry, SignerEntry, certificate, electing_entries, quorum_entries,
 };
 use attest::book::Book;
 use attest::entry::Entry;
-use attest::group::GroupSize;
 use blocks::head::Head;
 use blocks::rank::View;
 use blocks::statement::Statement;
+use std::alloc::Global;
 use wire::certificate::Certificate;
 use wire::form::Form;
+use wire::kind::MessageKind;
 use wire::message::*;
 use wire::parts::Part;
 use wire::words::{timeout_words, vote_words};
@@ -25,8 +26,8 @@ pub const FORM: Form = Form {
     greatest: 256,
 };
 
-// Room for every sample, and a spare byte.
-pub const ROOM: usize = 128;
+// Room for every sample.
+const SAMPLE_MOST: usize = 97;
 
 // The bytes of genesis' certificate, all of them 0.
 const GENESIS: [u8; 44] = [0; 44];
@@ -42,9 +43,10 @@ pub struct Samples {
     head: Head,
     block: [u8; LOT_BLOCK_BYTES],
     statement: Statement,
+    votes: [SignerEntry; 3],
     certificate: [u8; CERTIFICATE_BYTES],
-    timeouts: [u8; QUORUM_BYTES],
-    shares: [u8; ELECTING_BYTES],
+    timeouts: [SignerEntry; 3],
+    shares: [ShareEntry; 2],
 }
 
 impl Samples {
@@ -53,20 +55,16 @@ impl Samples {
         let lot_block = block()?;
         let statement = lot_block.statement();
         let mut table = [Entry::blank(); 8];
-        let group = GroupSize::of(MEMBERS).ok_or(Fault::Step)?;
-        let mut book = Book::over(&mut table, group);
-        let votes = quorum_entries(&mut book, &vote_words(&statement)).ok_or(Fault::Step)?;
-        let timeouts = quorum_entries(&mut book, &timeout_words(VIEW)).ok_or(Fault::Step)?;
-        let shares = electing_entries(&mut book, VIEW, VALUES).ok_or(Fault::Step)?;
-        let block = lot_block.bytes();
-        let certificate = certificate(&statement, &votes);
+        let mut book = Book::over(&mut table, group()?);
+        let votes = quorum_entries(&mut book, &vote_words(&statement))?;
         Ok(Samples {
             head: lot_block.head,
-            block,
+            block: lot_block.bytes(),
             statement,
-            certificate,
-            timeouts,
-            shares,
+            votes,
+            certificate: certificate(&statement, &votes),
+            timeouts: quorum_entries(&mut book, &timeout_words(VIEW))?,
+            shares: electing_entries(&mut book, VIEW, VALUES)?,
         })
     }
 
@@ -101,58 +99,62 @@ impl Samples {
         })
     }
 
-    // The vote of member 1, whose tag is the first of the certificate's.
+    // The vote of member 1.
     fn vote(&self) -> Message<'_> {
+        let entry = &self.votes[0];
         Message::Vote(Vote {
             statement: self.statement,
-            signer: 1,
-            tag: &self.certificate[45..49],
+            signer: entry[0],
+            tag: &entry[1..],
         })
     }
 
+    // The timeout of member 1.
     fn timeout(&self) -> Message<'_> {
+        let entry = &self.timeouts[0];
         Message::Timeout(Timeout {
             view: VIEW,
-            signer: 1,
-            tag: &self.timeouts[1..5],
+            signer: entry[0],
+            tag: &entry[1..],
             certificate: self.certified(),
         })
     }
 
+    // The share of member 1.
     fn share(&self) -> Message<'_> {
+        let entry = &self.shares[0];
         Message::Share(Share {
             view: VIEW,
-            member: 1,
-            value: 103,
-            tag: &self.shares[3..7],
+            member: entry[0],
+            value: u16::from_be_bytes([entry[1], entry[2]]),
+            tag: &entry[3..],
         })
     }
 
-    // The message of a kind; of every other number that of kind 7.
-    pub fn message(&self, kind: u8) -> Message<'_> {
+    // The message of a kind.
+    pub fn message(&self, kind: MessageKind) -> Message<'_> {
         match kind {
-            1 => self.proposal(),
-            2 => self.vote(),
-            3 => self.timeout(),
-            4 => Message::TimeoutCertificate(Gathered {
+            MessageKind::Proposal => self.proposal(),
+            MessageKind::Vote => self.vote(),
+            MessageKind::Timeout => self.timeout(),
+            MessageKind::TimeoutCertificate => Message::TimeoutCertificate(Gathered {
                 view: VIEW,
-                entries: &self.timeouts,
+                entries: self.timeouts.as_flattened(),
             }),
-            5 => Message::Certificate(self.certified()),
-            6 => self.share(),
-            _ => Message::CoinCertificate(Gathered {
+            MessageKind::Certificate => Message::Certificate(self.certified()),
+            MessageKind::Share => self.share(),
+            MessageKind::CoinCertificate => Message::CoinCertificate(Gathered {
                 view: VIEW,
-                entries: &self.shares,
+                entries: self.shares.as_flattened(),
             }),
         }
     }
 }
 
-// The message in a buffer, and its length.
-pub fn written(message: &Message<'_>) -> Result<([u8; ROOM], usize), Fault> {
-    let mut out = [0; ROOM];
-    match write(FORM, message, &mut out) {
-        Ok(len) => Ok((out, len)),
-        Err(_) => Err(Fault::Step),
-    }
+// The bytes of a sample.
+pub fn written(heap: Global, message: &Message<'_>) -> Result<Vec<u8>, Fault> {
+    let mut bytes = vec![in heap; 0; SAMPLE_MOST]?;
+    let length = write(FORM, message, &mut bytes).map_err(|_| Fault::Step)?;
+    bytes.truncate(length);
+    Ok(bytes)
 }

@@ -1,7 +1,9 @@
 // Signing in a shared book, and the entries of certificates that come of it.
 ghost use Rattle.std.specs.Prelude.{◌≡◌, ◌∷◌, ◌++◌};
+ghost use Rattle.std.specs.List.{flat_map};
 ghost use Rattle.blocks.specs.Statements.{statement_bytes};
 
+use crate::fault::Fault;
 use attest::attestor::{Attestor, TAG_ROOM};
 use attest::book::Book;
 use blocks::layout::put;
@@ -12,69 +14,52 @@ use wire::words::share_words;
 // A tag of the book: a place.
 pub type Tag = [u8; 4];
 
-// The bytes of a quorum's entries, each a signer and a tag, and of a certificate with them.
-pub const QUORUM_BYTES: usize = 15;
+// A signer and its tag.
+pub type SignerEntry = [u8; 5];
 
+// A member, the value of its share, and the dealer's tag.
+pub type ShareEntry = [u8; 7];
+
+// The bytes of a certificate with the entries of a quorum.
 pub const CERTIFICATE_BYTES: usize = 59;
 
-// The bytes of the two entries that elect, each a member, a value and a tag.
-pub const ELECTING_BYTES: usize = 14;
-
-// Hands the book to the member and signs the words for it; none where it is no member, or the book will not sign.
-pub fn sign_as(book: &mut Book<'_>, member: u8, words: &[u8]) -> Option<Tag> {
+// Hands the book to the member and signs the words for it.
+pub fn sign_as(book: &mut Book<'_>, member: u8, words: &[u8]) -> Result<Tag, Fault> {
     let mut room = [0; TAG_ROOM];
-    if book.hand_to(member).is_err() || book.sign(words, &mut room).is_err() {
-        return None;
-    }
-    Some([room[0], room[1], room[2], room[3]])
-}
-
-// The entry of a member that signs the words.
-fn signer_entry(book: &mut Book<'_>, member: u8, words: &[u8]) -> Option<[u8; 5]> {
-    let [a, b, c, d] = sign_as(book, member, words)?;
-    Some([member, a, b, c, d])
+    book.hand_to(member).map_err(|_| Fault::Step)?;
+    book.sign(words, &mut room).map_err(|_| Fault::Step)?;
+    let [a, b, c, d, ..] = room;
+    Ok([a, b, c, d])
 }
 
 // The entries of members 1 to 3, who all sign the words.
-pub fn quorum_entries(book: &mut Book<'_>, words: &[u8]) -> Option<[u8; QUORUM_BYTES]> {
-    let mut entries = [0; QUORUM_BYTES];
-    let first = signer_entry(book, 1, words)?;
-    let second = signer_entry(book, 2, words)?;
-    let third = signer_entry(book, 3, words)?;
-    let at = put(&mut entries, 0, &first);
-    let at = put(&mut entries, at, &second);
-    put(&mut entries, at, &third);
-    Some(entries)
+pub fn quorum_entries(book: &mut Book<'_>, words: &[u8]) -> Result<[SignerEntry; 3], Fault> {
+    [1, 2, 3].try_map(|signer| -> Result<SignerEntry, Fault> {
+        let [a, b, c, d] = sign_as(book, signer, words)?;
+        Ok([signer, a, b, c, d])
+    })
 }
 
-// The entry of one share, which the dealer signs.
-fn share_entry(book: &mut Book<'_>, view: View, member: u8, value: u16) -> Option<[u8; 7]> {
-    let [a, b, c, d] = sign_as(book, 0, &share_words(view, member, value))?;
-    let [high, low] = value.to_be_bytes();
-    Some([member, high, low, a, b, c, d])
-}
-
-// The entries of the shares of members 1 and 2.
+// The entries of the shares of members 1 and 2, which the dealer signs.
 pub fn electing_entries(
     book: &mut Book<'_>,
     view: View,
     values: [u16; 2],
-) -> Option<[u8; ELECTING_BYTES]> {
-    let mut entries = [0; ELECTING_BYTES];
-    let first = share_entry(book, view, 1, values[0])?;
-    let second = share_entry(book, view, 2, values[1])?;
-    let at = put(&mut entries, 0, &first);
-    put(&mut entries, at, &second);
-    Some(entries)
+) -> Result<[ShareEntry; 2], Fault> {
+    [(1, values[0]), (2, values[1])].try_map(|(member, value)| -> Result<ShareEntry, Fault> {
+        let [a, b, c, d] = sign_as(book, 0, &share_words(view, member, value))?;
+        let [high, low] = value.to_be_bytes();
+        Ok([member, high, low, a, b, c, d])
+    })
 }
 
 // A certificate of three entries.
-pub fn certificate(statement: &Statement, entries: &[u8; QUORUM_BYTES]) -> [u8; CERTIFICATE_BYTES]
-    ensures { result ≡ statement_bytes statement.now ++ (3 ∷ entries.now) }
+pub fn certificate(statement: &Statement, entries: &[SignerEntry; 3]) -> [u8; CERTIFICATE_BYTES]
+    ensures { result ≡ statement_bytes statement.now ++ (3 ∷ flat_map (λ x. x) entries.now) }
 {
     let mut bytes = [0; CERTIFICATE_BYTES];
     let at = put(&mut bytes, 0, &statement.bytes());
     let at = put(&mut bytes, at, &[3]);
-    put(&mut bytes, at, entries);
+    put(&mut bytes, at, entries.as_flattened());
     bytes
 }

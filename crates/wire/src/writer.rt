@@ -1,12 +1,12 @@
 // Writing a message into a buffer.
-ghost use Rattle.std.specs.Prelude.{◌≡◌, ◌+◌, length, IfSome, MatchOption, ◌<◌};
+ghost use Rattle.std.specs.Prelude.{◌≡◌, ◌+◌, ◌<◌, ◌∷◌, length, MatchOption};
 ghost use Rattle.std.specs.List.{flat_map};
-ghost use Rattle.wire.specs.Layouts.{message_bytes};
+ghost use Rattle.wire.specs.Layouts.{gathered_bytes, message_bytes};
 ghost use Rattle.wire.specs.Told.{message_told};
 ghost use Rattle.wire.specs.Writing.{writing, written};
 
 use crate::form::{Form, quorum};
-use crate::message::Message;
+use crate::message::{Gathered, Message};
 use blocks::layout::put;
 use coin::share_count;
 
@@ -38,6 +38,15 @@ fn write_fields(out: &mut [u8], fields: &[&[u8]]) -> Result<usize, TooShort>
     Ok(at)
 }
 
+// Writes a message's number and what was gathered in a view, so many entries.
+fn write_gathered(number: u8, g: Gathered, count: u8, out: &mut [u8]) -> Result<usize, TooShort>
+    ensures answer { result ≡ writing out.old (number ∷ gathered_bytes g.entry.view count g.entry.entries.now) }
+    ensures bytes { out.new ≡ written out.old (number ∷ gathered_bytes g.entry.view count g.entry.entries.now) }
+{
+    let view = g.view.0.to_be_bytes();
+    write_fields(out, &[&[number], &view, &[count], g.entries])
+}
+
 // Writes the message at the start of the buffer, and says how long it is.
 pub fn write(form: Form, message: &Message, out: &mut [u8]) -> Result<usize, TooShort>
     ensures answer { result ≡ writing out.old (message_bytes form (message_told message.now)) }
@@ -59,19 +68,13 @@ pub fn write(form: Form, message: &Message, out: &mut [u8]) -> Result<usize, Too
             let highest = t.certificate.part.bytes;
             write_fields(out, &[&[number], &view, &[t.signer], t.tag, highest])
         }
-        Message::TimeoutCertificate(g) => {
-            let view = g.view.0.to_be_bytes();
-            write_fields(out, &[&[number], &view, &[quorum(n)], g.entries])
-        }
+        Message::TimeoutCertificate(g) => write_gathered(number, g, quorum(n), out),
         Message::Certificate(c) => write_fields(out, &[&[number], c.part.bytes]),
         Message::Share(s) => {
             let view = s.view.0.to_be_bytes();
             let value = s.value.to_be_bytes();
             write_fields(out, &[&[number], &view, &[s.member], &value, s.tag])
         }
-        Message::CoinCertificate(g) => {
-            let view = g.view.0.to_be_bytes();
-            write_fields(out, &[&[number], &view, &[share_count(n)], g.entries])
-        }
+        Message::CoinCertificate(g) => write_gathered(number, g, share_count(n), out),
     }
 }

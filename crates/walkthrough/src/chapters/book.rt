@@ -2,12 +2,11 @@
 use super::verdict;
 use crate::fault::Fault;
 use crate::hex::Hex;
-use crate::sample::{MEMBERS, block};
+use crate::sample::{block, group};
 use crate::signing::sign_as;
 use attest::attestor::Attestor;
 use attest::book::Book;
 use attest::entry::Entry;
-use attest::group::GroupSize;
 use std::alloc::Global;
 use wire::words::vote_words;
 
@@ -15,31 +14,30 @@ use wire::words::vote_words;
 const ENTRIES: usize = 3;
 
 pub fn chapter(heap: Global) -> Result<String, Fault> {
-    let mut text = String::new(heap);
     let words = vote_words(&block()?.statement());
     let mut table = [Entry::blank(); ENTRIES];
-    let group = GroupSize::of(MEMBERS).ok_or(Fault::Step)?;
-    let mut book = Book::over(&mut table, group);
+    let mut book = Book::over(&mut table, group()?);
+    let mut text = String::new(heap);
     writeln!(text, "3. Three members vote in a book of {ENTRIES} entries")?;
     for member in 1..4 {
-        let tag = sign_as(&mut book, member, &words).ok_or(Fault::Step)?;
-        let accepted = book.accept(member, &words, &tag);
+        let tag = sign_as(&mut book, member, &words)?;
+        let verdict = verdict(book.accept(member, &words, &tag));
         writeln!(
             text,
-            "  member {member} signs: tag {}, {}",
-            Hex(&tag),
-            verdict(accepted)
+            "  member {member} signs: tag {}, {verdict}",
+            Hex(&tag)
         )?;
     }
-    let stranger = book.accept(2, &words, &[0, 0, 0, 0]);
-    writeln!(text, "  place 0 as member 2's tag: {}", verdict(stranger))?;
-    let past = book.accept(4, &words, &[0, 0, 0, 3]);
-    writeln!(text, "  place 3, which has no entry: {}", verdict(past))?;
-    match sign_as(&mut book, 4, &words) {
-        Some(_) => Err(Fault::Step),
-        None => {
-            writeln!(text, "  member 4 is not signed for: the book is full")?;
-            Ok(text)
-        }
+    if sign_as(&mut book, 4, &words).is_ok() {
+        return Err(Fault::Step);
     }
+    writeln!(
+        text,
+        "  place 0 as member 2's tag: {}
+  place 3, which has no entry: {}
+  member 4 is not signed for: the book is full",
+        verdict(book.accept(2, &words, &[0, 0, 0, 0])),
+        verdict(book.accept(4, &words, &[0, 0, 0, 3]))
+    )?;
+    Ok(text)
 }

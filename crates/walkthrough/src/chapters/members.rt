@@ -1,14 +1,13 @@
 // The eighth chapter: four members are set up, the first leader proposes, and a timer runs out.
 use crate::fault::Fault;
 use crate::hex::Hex;
-use crate::sample::{LOT, MEMBERS};
+use crate::sample::{LOT, MEMBERS, group};
 use attest::book::Book;
 use attest::entry::Entry;
-use attest::group::GroupSize;
 use member::memory::MemoryMut;
 use member::state::Member;
 use member::types::{Answer, Refusal};
-use std::alloc::Global;
+use std::alloc::{AllocError, Global};
 use table::held::{GENESIS, Held};
 use wire::limits::{CERTIFICATE_MOST, OUTGOING_BYTES};
 
@@ -16,12 +15,11 @@ use wire::limits::{CERTIFICATE_MOST, OUTGOING_BYTES};
 const ENTRIES: usize = 8;
 
 pub fn chapter(heap: Global) -> Result<String, Fault> {
-    let mut text = String::new(heap);
     let mut entries = [Entry::blank(); ENTRIES];
-    let group = GroupSize::of(MEMBERS).ok_or(Fault::Step)?;
-    let mut book = Book::over(&mut entries, group);
+    let mut book = Book::over(&mut entries, group()?);
+    let mut text = String::new(heap);
     writeln!(text, "8. Four members on one book")?;
-    for own in 1..5 {
+    for own in 1..=MEMBERS {
         write_member(&mut text, &mut book, own)?;
     }
     Ok(text)
@@ -29,31 +27,20 @@ pub fn chapter(heap: Global) -> Result<String, Fault> {
 
 // Sets a member up, shows its sheet, and lets member 1 propose a lot and member 3's timer run out.
 fn write_member(text: &mut String, book: &mut Book<'_>, own: u8) -> Result<(), Fault> {
-    let mut votes = [None; 4];
-    let mut timeouts = [None; 4];
-    let mut finished = [None; 4];
-    let mut shares = [None; 4];
-    let mut table = [GENESIS; 8];
-    let mut shelf = [[0; CERTIFICATE_MOST]; 5];
-    let mut out = [0; OUTGOING_BYTES];
     let mut memory = MemoryMut {
-        votes: &mut votes,
-        timeouts: &mut timeouts,
-        finished: &mut finished,
-        shares: &mut shares,
-        table: &mut table,
-        shelf: &mut shelf,
+        votes: &mut [None; 4],
+        timeouts: &mut [None; 4],
+        finished: &mut [None; 4],
+        shares: &mut [None; 4],
+        table: &mut [GENESIS; 8],
+        shelf: &mut [[0; CERTIFICATE_MOST]; 5],
     };
-    let Ok(mut member) = Member::set_up(own, MEMBERS, &mut memory, &out) else {
-        return Err(Fault::Step);
-    };
+    let mut out = [0; OUTGOING_BYTES];
+    let mut member = Member::set_up(own, MEMBERS, &mut memory, &out).map_err(|_| Fault::Step)?;
+    book.hand_to(own).map_err(|_| Fault::Step)?;
     write_sheet(text, &member, memory.table)?;
-    if book.hand_to(own).is_err() {
-        return Err(Fault::Step);
-    }
     if own == 1 {
-        let payload = LOT.payload();
-        let answer = member.propose(book, memory.shared(), &payload, &mut out);
+        let answer = member.propose(book, memory.shared(), &LOT.payload(), &mut out);
         write_answer(
             text,
             "is the leader of round 1 and proposes a lot",
@@ -71,15 +58,12 @@ fn write_member(text: &mut String, book: &mut Book<'_>, own: u8) -> Result<(), F
 
 // The member's sheet, its lines one after another.
 fn write_sheet(text: &mut String, member: &Member, table: &[Held]) -> Result<(), Fault> {
-    let mut sheet = [0; 256];
-    let Ok(length) = member.sheet(table, &mut sheet) else {
-        return Err(Fault::Step);
-    };
-    write!(text, "  ")?;
-    for i in 0..length.saturating_sub(1).min(256) {
-        let byte = sheet[i];
-        let shown = if byte == 10 { ' ' } else { char::from(byte) };
-        write!(text, "{shown}")?;
+    let mut room = [0; 256];
+    let length = member.sheet(table, &mut room).map_err(|_| Fault::Step)?;
+    let sheet = str::from_utf8(&room[..length]).map_err(|_| Fault::Step)?;
+    write!(text, " ")?;
+    for line in sheet.lines() {
+        write!(text, " {line}")?;
     }
     writeln!(text)?;
     Ok(())
@@ -91,16 +75,17 @@ fn write_answer(
     what: &str,
     answer: Result<Answer, Refusal>,
     out: &[u8],
-) -> Result<(), Fault> {
+) -> Result<(), AllocError> {
     match answer {
-        Ok(answer) => {
-            let length = answer.length.min(out.len());
-            writeln!(text, "    it {what}: a message of {length} bytes to all")?;
-            writeln!(text, "    {}", Hex(&out[0..length]))?;
+        Ok(Answer { length, .. }) => {
+            let message = &out[..length.min(out.len())];
+            writeln!(
+                text,
+                "    it {what}: a message of {length} bytes to all
+    {}",
+                Hex(message)
+            )
         }
-        Err(refusal) => {
-            writeln!(text, "    it {what}: refused with {}", u8::from(refusal))?;
-        }
+        Err(refusal) => writeln!(text, "    it {what}: refused with {}", u8::from(refusal)),
     }
-    Ok(())
 }

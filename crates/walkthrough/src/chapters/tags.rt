@@ -17,18 +17,22 @@ const VOTER: u8 = 2;
 const DAMAGED: usize = 40;
 
 pub fn chapter(heap: Global) -> Result<String, Fault> {
-    let mut text = String::new(heap);
     let statement = block()?.statement();
     let words = vote_words(&statement);
     let mut tag = tag_of(VOTER, &words)?;
-    writeln!(text, "2. Member {VOTER} votes under pair keys")?;
-    writeln!(text, "  statement  {}", Hex(&statement.bytes()))?;
-    writeln!(text, "  words      {}  1 and the statement", Hex(&words))?;
+    let mut text = String::new(heap);
     writeln!(
         text,
-        "  keys       for demonstration only: byte 16 * signer + receiver, 32 times"
+        "2. Member {VOTER} votes under pair keys
+  statement  {}
+  words      {}  1 and the statement
+  keys       for demonstration only: byte 16 * signer + receiver, 32 times",
+        Hex(&statement.bytes()),
+        Hex(&words)
     )?;
-    write_parts(&mut text, &tag)?;
+    for (receiver, part) in (1..=MEMBERS).zip(tag.chunks(PART)) {
+        writeln!(text, "    part {receiver}   {}", Hex(part))?;
+    }
     writeln!(text, "  the tag is judged by each member")?;
     write_verdicts(&mut text, &words, &tag)?;
     tag[DAMAGED] ^= 1;
@@ -43,26 +47,15 @@ pub fn chapter(heap: Global) -> Result<String, Fault> {
 // The tag of a member for the words.
 fn tag_of(member: u8, words: &[u8]) -> Result<[u8; TAG_BYTES], Fault> {
     let mut room = [0; TAG_ROOM];
-    let mut keys = keys_of(member)?;
-    if keys.sign(words, &mut room).is_err() {
-        return Err(Fault::Step);
-    }
-    let mut tag = [0; TAG_BYTES];
-    tag.copy_from_slice(&room[0..TAG_BYTES]);
-    Ok(tag)
-}
-
-fn write_parts(text: &mut String, tag: &[u8; TAG_BYTES]) -> Result<(), Fault> {
-    for receiver in 1..5 {
-        let end = PART * receiver;
-        writeln!(text, "    part {receiver}   {}", Hex(&tag[end - PART..end]))?;
-    }
-    Ok(())
+    keys_of(member)?
+        .sign(words, &mut room)
+        .map_err(|_| Fault::Step)?;
+    room.first_chunk().copied().ok_or(Fault::Step)
 }
 
 // What each member's attestor says of the tag as the voter's.
 fn write_verdicts(text: &mut String, words: &[u8], tag: &[u8]) -> Result<(), Fault> {
-    for member in 1..MEMBERS + 1 {
+    for member in 1..=MEMBERS {
         let accepted = keys_of(member)?.accept(VOTER, words, tag);
         writeln!(text, "    member {member}: {}", verdict(accepted))?;
     }

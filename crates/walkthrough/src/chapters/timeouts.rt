@@ -6,33 +6,19 @@ use tally::{Numbered, Refused, Tally};
 use wire::form::quorum;
 
 // The members whose timeouts come in, in turn.
-const SENDERS: [u8; 5] = [1, 2, 2, 3, 4];
+const SENDERS: [usize; 5] = [1, 2, 2, 3, 4];
 
 pub fn chapter(heap: Global) -> Result<String, Fault> {
+    let threshold = quorum(MEMBERS) as usize;
+    let mut places = [None; MEMBERS as usize];
+    let mut tally = Tally::over(&mut places);
     let mut text = String::new(heap);
-    let threshold = quorum(MEMBERS);
     writeln!(text, "5. Timeouts of view 0 are counted up to {threshold}")?;
-    write_puts(&mut text, &mut [None; 4], threshold as usize)?;
-    Ok(text)
-}
-
-// The timeouts are put into the tally one by one.
-fn write_puts(
-    text: &mut String,
-    places: &mut [Option<Numbered>],
-    threshold: usize,
-) -> Result<(), Fault> {
-    let mut tally = Tally::over(places);
     for member in SENDERS {
-        let answer = tally.put(place_of(member), Numbered { number: 0 }, threshold);
+        let answer = tally.put(member.saturating_sub(1), Numbered { number: 0 }, threshold);
         writeln!(text, "  member {member}: {}", told(answer))?;
     }
-    Ok(())
-}
-
-// A member's place in a tally.
-fn place_of(member: u8) -> usize {
-    (member as usize).saturating_sub(1)
+    Ok(text)
 }
 
 fn told(answer: Result<bool, Refused>) -> &'static str {
