@@ -8,7 +8,7 @@ use Rattle.collect.specs.Build.{places_most}
 use Rattle.blocks.specs.Layout.{pasted}
 use Rattle.wire.specs.Layouts.{entry_bytes}
 use Rattle.collect.specs.Items.{entries_from}
-use Rattle.collect.proofs.Pasting.{Left, left_pasted, left_none}
+use Rattle.collect.proofs.Pasting.{Left, left_pasted}
 
 module _ {T : Type 0} (tail : T → List ℕ) where
   -- the bytes of a walk's entries
@@ -42,8 +42,3 @@ module _ {T : Type 0} (tail : T → List ℕ) where
       numbers = All-tail (λ (met : ℕ × T). met.0 < places_most) (k, x) rest numbers_on;
       written = left_pasted ((k + 1) ∷ tail x) (bytes_of rest) (subst (λ walk. Left old first (bytes_of all) out at (bytes_of walk)) is e.written) now (to ∙ omega arith);
     }
-
-  -- a walk at its end
-  pub all_written : (old : List ℕ) (first : ℕ) (whole out : List ℕ) (at : ℕ) (walk : List (ℕ × T)) → walk ≡ [] → Left old first whole out at (bytes_of walk)
-      → (out ≡ pasted old first whole) × (at ≡ first + length whole)
-  all_written old first whole out at walk e left = left_none (subst (λ w. Left old first whole out at (bytes_of w)) e left)

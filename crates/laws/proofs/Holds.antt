@@ -1,9 +1,9 @@
 -- The block of a proposal that breaks no rule stands on a held parent, of the next round, and there is room for it.
-use Rattle.std.proofs.Common.{◌≡◌, ℕ, Bool, ◌+◌, ◌<◌, ◌≤◌, true, false, not, ◌&&◌, eqb, ltb, leb, List, length, is_some, IfSome, Some, None, Option, ap, ◌∙◌, inl, inr, arith, rules}
+use Rattle.std.proofs.Common.{◌≡◌, ℕ, Bool, ◌+◌, ◌<◌, ◌≤◌, true, false, not, ◌&&◌, eqb, leb, List, length, is_some, IfSome, Some, None, Option, ap, ◌∙◌, inl, inr, arith, rules}
 use Rattle.std.specs.Str.{bytes_eq}
 use Rattle.std.proofs.lemmas.Slice.Eq.{bytes_eq-Decides}
 use Rattle.std.proofs.lemmas.Bool.Decides.{nat_tests}
-use Rattle.std.proofs.lemmas.Bool.{true≢false, and_parts, and_cases, both_ways, cases_Bool, cond-true, cond-false, eqb-true, leb-true, leb-false, not-false, not_from_false}
+use Rattle.std.proofs.lemmas.Bool.{true≢false, and_parts, cases_Bool, cond-true, cond-false, eqb-true, not-false}
 use Rattle.digest.specs.Digest.{digest}
 use Rattle.blocks.specs.declared.statement.Statement.{Statement}
 use Rattle.blocks.proofs.SameStatements.{same_equal}
@@ -19,7 +19,7 @@ use Rattle.member.specs.BlockRules.{follows, differs, mismatched, missing}
 use Rattle.member.specs.Deliver.{is_held, held_block, hold_table, hold_count}
 use Rattle.member.specs.Exit.{place_of}
 use Rattle.member.specs.See.{or_last}
-use Rattle.member.specs.Sizes.{sized, group_size, tallies_fit, table_size}
+use Rattle.member.specs.Sizes.{sized}
 use Rattle.laws.proofs.Links.{Placed, TableLeft, unheld, holds}
 
 -- the table has 2 places or more, as many as at set up

@@ -1,5 +1,5 @@
 -- What every outcome comes to.
-use Rattle.std.proofs.Common.{◌≡◌, ℕ, List, [], ◌∷◌, Err, Option, sym, refl, ◌∙◌, subst, inl, arith}
+use Rattle.std.proofs.Common.{◌≡◌, List, [], ◌∷◌, Err, Option, sym, refl, ◌∙◌, subst, inl, arith}
 use Rattle.attest.specs.declared.attestor.Attestor.{Ghosts}
 use Rattle.coin.specs.declared.Coin.{Ghosts as CoinGhosts}
 use Rattle.blocks.specs.declared.statement.Statement.{Statement}

@@ -1,7 +1,7 @@
 -- Which certificates are official, from the rules that are not broken.
-use Rattle.std.proofs.Common.{◌≡◌, ℕ, ◌<◌, Bool, true, false, not, ◌||◌, eqb, ltb, leb, ◌⊎◌, List, Some, None, Option, sym, refl, ◌∙◌, inl, inr, arith, rules}
+use Rattle.std.proofs.Common.{◌≡◌, ℕ, ◌<◌, Bool, true, false, not, ◌||◌, ◌⊎◌, List, Some, None, Option, refl, inl, inr, arith, rules}
 use Rattle.std.proofs.lemmas.Bool.Decides.{nat_tests}
-use Rattle.std.proofs.lemmas.Bool.{both_ways, not-true, not-false, and_parts, and_cases, or_parts, eqb-true, eqb-false, ltb-true, ltb-false, lt-ltb, cases_Bool, cond-true, cond-false}
+use Rattle.std.proofs.lemmas.Bool.{not-false, or_parts, eqb-true}
 use Rattle.blocks.specs.declared.head.Head.{Head}
 use Rattle.blocks.specs.declared.rank.Kind.{Kind}
 use Rattle.blocks.specs.declared.rank.Kind.TheVariants.{Regular, Fallback}
@@ -9,7 +9,7 @@ use Rattle.blocks.specs.declared.rank.View.{View}
 use Rattle.blocks.specs.declared.statement.Statement.{Statement}
 use Rattle.table.specs.declared.held.Held.{Held}
 use Rattle.member.specs.declared.state.Member.{Member}
-use Rattle.member.specs.BlockRules.{led, follows, opens, continues, stands, mismatched, proposal_breaks}
+use Rattle.member.specs.BlockRules.{led, follows, opens, stands, mismatched, proposal_breaks}
 use Rattle.member.specs.Deliver.{ahead, past, of_fallback, sees_under}
 use Rattle.member.specs.See.{is_fallback, is_winner, unendorsed}
 use Rattle.member.specs.States.{winner_of}

@@ -1,6 +1,6 @@
 -- What a phase or a chain becomes is not below what it was.
-use Rattle.std.proofs.Common.{◌≡◌, ℕ, ◌<◌, ◌≤◌, Bool, true, false, cond, eqb, ltb, List, get_or, Some, None, sym, ap, subst, arith, get_or-set_other}
-use Rattle.std.proofs.lemmas.Bool.{cond_both, and_parts, ltb-true}
+use Rattle.std.proofs.Common.{◌≡◌, ℕ, ◌<◌, ◌≤◌, Bool, true, false, cond, List, get_or, Some, None, sym, ap, subst, arith, get_or-set_other}
+use Rattle.std.proofs.lemmas.Bool.{cond_both}
 use Rattle.std.proofs.lemmas.Bool.Decides.{nat_tests}
 use Rattle.blocks.specs.declared.head.Head.{Head}
 use Rattle.blocks.specs.declared.rank.Rank.{Rank}
@@ -19,8 +19,7 @@ use Rattle.member.specs.Exit.{exit_phase, exit_to}
 use Rattle.member.specs.Propose.{less_proposed}
 use Rattle.member.specs.See.{is_fallback, see, raises}
 use Rattle.member.specs.States.{row_of, winner_of}
-use Rattle.member.specs.Votes.{votes, votes_regular, votes_fallback, voted_phase, respects_lock}
-use Rattle.member.specs.Words.{is_steady, is_in_fallback}
+use Rattle.member.specs.Votes.{votes, votes_regular, votes_fallback, voted_phase}
 
 pub record Later (p p' : Phase) : Type 0 where
   pub views : p.view.0 ≤ p'.view.0

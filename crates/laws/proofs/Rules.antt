@@ -1,5 +1,5 @@
 -- What follows where no rule is broken, and where one is.
-use Rattle.std.proofs.Common.{◌≡◌, ℕ, ◌≤◌, true, false, List, [], ◌∷◌, Some, None, Option, refl, arith}
+use Rattle.std.proofs.Common.{◌≡◌, ℕ, ◌≤◌, true, false, List, [], ◌∷◌, Some, None, Option, refl}
 use Rattle.std.proofs.lemmas.Bool.{cond_both, both_ways}
 use Rattle.member.specs.declared.state.Member.{Member}
 use Rattle.member.specs.declared.types.Refusal.{Refusal}

@@ -1,7 +1,7 @@
 -- A fallback certificate of this view leaves the chain as it was, and an unendorsed one is refused.
 use Rattle.std.proofs.Common.{◌≡◌, ℕ, true, not, List, Some, None, Option, sym, refl, ap, ◌∙◌, subst, arith}
 use Rattle.std.proofs.lemmas.Bool.Decides.{nat_tests}
-use Rattle.std.proofs.lemmas.Bool.{and_parts, both_ways, cond_both, eqb-true, or_right}
+use Rattle.std.proofs.lemmas.Bool.{and_parts, both_ways, cond_both, or_right}
 use Rattle.attest.specs.declared.attestor.Attestor.{Ghosts}
 use Rattle.coin.specs.declared.Coin.{Ghosts as CoinGhosts}
 use Rattle.digest.specs.Digest.{digest}

@@ -1,4 +1,1 @@
-pub mod Prepared
-pub mod Signed
 pub mod Rooms
-pub mod Planned

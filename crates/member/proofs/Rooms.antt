@@ -1,6 +1,7 @@
 -- Every certificate of a group has room in a place of the shelf, and every message in the outgoing buffer.
 use Rattle.std.proofs.Common.{◌≡◌, ℕ, ◌+◌, ◌*◌, ◌≤◌, max, Bool, true, false, cond, ◌||◌, eqb, sym, subst, ⊎_elim, mul-le-mul, arith}
 use Rattle.std.proofs.lemmas.Bool.{eqb-true, or_cases}
+use Rattle.std.proofs.lemmas.Bool.Decides.{nat_tests}
 use Rattle.attest.specs.declared.attestor.Attestor.{Ghosts}
 use Rattle.blocks.specs.declared.statement.Statement.{Statement}
 use Rattle.wire.specs.Certificates.{count_for}
@@ -35,7 +36,7 @@ certificate_room n w s size narrow =
 -- the tags of a group's attestor
 narrow_tags : (per fixed n : ℕ) → ((k : ℕ) → 4 ≤ k → per * k + fixed ≤ 16 * k) → group_size n ≡ true → per * n + fixed ≤ 16 * max 4 n
 narrow_tags per fixed n narrow size =
-    let four : 4 ≤ n = at_each_size (λ k. 4 ≤ k) n size (omega arith) (omega arith) (omega arith) (omega arith) in
+    let four : 4 ≤ n = grind (arith, nat_tests) in
     omega (arith, narrow n four)
 
 -- so a certificate that is read or written against a group's form has room

@@ -101,7 +101,6 @@ impl Member {
     }
 
     // Writes the planned proposal: its length.
-    #[tactic(auto, using(crate::proofs::Planned::planned_message))]
     fn write_planned(
         &self,
         form: Form,
@@ -127,6 +126,7 @@ impl Member {
 
     // Proposes a block with the payload, to all: as the leader, in steady, on the highest certificate; in fallback the next
     // height of the own chain. Once each.
+    #[tactic(auto, using(crate::proofs::Rooms::certificate_fits))]
     pub fn propose<A: Attestor>(
         &mut self,
         attestor: &A,

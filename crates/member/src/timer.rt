@@ -53,6 +53,7 @@ impl Member {
     }
 
     // The view's timer has run out: in steady the member times out, and a timeout with its highest certificate goes to all.
+    #[tactic(auto, using(crate::proofs::Rooms::certificate_fits))]
     pub fn timer<A: Attestor>(
         &mut self,
         attestor: &mut A,

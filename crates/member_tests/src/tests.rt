@@ -1,12 +1,10 @@
 use attest::book::Book;
 use attest::entry::Entry;
 use attest::group::GroupSize;
-use collect::items::*;
-use member::memory::{Memory, MemoryMut};
+use member::memory::MemoryMut;
 use member::state::Member;
-use member::types::Refusal;
 use std::test::Fail;
-use table::held::{GENESIS, Held};
+use table::held::GENESIS;
 use wire::form::Form;
 use wire::limits::{CERTIFICATE_MOST, OUTGOING_BYTES};
 use wire::reader::read;
@@ -15,75 +13,40 @@ use wire::reader::read;
 const FRESH: &[u8] =
     b"member=2\nmembers=4\nview=0\nstage=steady\nround=1\nvoted=0\nlock=0,0,0\nhigh=0,0,0\nblocks=1\ncommitted=0\n";
 
-// What a member of four is lent.
-#[derive(Drop)]
-struct Room {
-    votes: [Option<KeptVote>; 4],
-    timeouts: [Option<KeptTimeout>; 4],
-    finished: [Option<Finished>; 4],
-    shares: [Option<KeptShare>; 4],
-    table: [Held; 2],
-    shelf: [[u8; CERTIFICATE_MOST]; 5],
-}
-
-impl Room {
-    fn new() -> Room {
-        Room {
-            votes: [None; 4],
-            timeouts: [None; 4],
-            finished: [None; 4],
-            shares: [None; 4],
-            table: [GENESIS; 2],
-            shelf: [[0; CERTIFICATE_MOST]; 5],
-        }
-    }
-
-    fn set_up(&mut self, own: u8) -> Result<Member, Refusal> {
-        let mut memory = MemoryMut {
-            votes: &mut self.votes,
-            timeouts: &mut self.timeouts,
-            finished: &mut self.finished,
-            shares: &mut self.shares,
-            table: &mut self.table,
-            shelf: &mut self.shelf,
-        };
-        Member::set_up(own, 4, &mut memory, &[0; OUTGOING_BYTES])
-    }
-
-    fn memory(&self) -> Memory<'_> {
-        Memory {
-            votes: &self.votes,
-            timeouts: &self.timeouts,
-            finished: &self.finished,
-            shares: &self.shares,
-            table: &self.table,
-            shelf: &self.shelf,
-        }
-    }
-}
-
 // A fresh member of four writes its sheet; member 2 writes just these lines.
 #[test]
 fn fresh_sheet(rt: HostRuntime) -> Result<(), Fail> {
-    let mut room = Room::new();
-    let member = room.set_up(2)?;
+    let mut memory = MemoryMut {
+        votes: &mut [None; 4],
+        timeouts: &mut [None; 4],
+        finished: &mut [None; 4],
+        shares: &mut [None; 4],
+        table: &mut [GENESIS; 2],
+        shelf: &mut [[0; CERTIFICATE_MOST]; 5],
+    };
+    let member = Member::set_up(2, 4, &mut memory, &[0; OUTGOING_BYTES])?;
     let mut sheet = [0; 256];
-    let length = member.sheet(&room.table, &mut sheet)?;
+    let length = member.sheet(memory.table, &mut sheet)?;
     assert_eq!(rt; length, 98);
-    assert!(rt; length <= 256);
     assert!(rt; &sheet[..length] == FRESH);
     Ok(())
 }
 
 // What member 1 of 4, the leader of round 1, answers to a payload of so many bytes: 0, or the refusal's number.
 fn proposes(payload: &[u8]) -> Result<u8, Fail> {
-    let mut room = Room::new();
-    let mut member = room.set_up(1)?;
-    let group = GroupSize::of(4).ok_or("no group")?;
-    let mut entries = [Entry::blank(); 1];
-    let book = Book::over(&mut entries, group);
+    let mut memory = MemoryMut {
+        votes: &mut [None; 4],
+        timeouts: &mut [None; 4],
+        finished: &mut [None; 4],
+        shares: &mut [None; 4],
+        table: &mut [GENESIS; 2],
+        shelf: &mut [[0; CERTIFICATE_MOST]; 5],
+    };
     let mut out = [0; OUTGOING_BYTES];
-    let answer = member.propose(&book, room.memory(), payload, &mut out);
+    let mut member = Member::set_up(1, 4, &mut memory, &out)?;
+    let mut entries = [Entry::blank(); 1];
+    let book = Book::over(&mut entries, GroupSize::try_from(4)?);
+    let answer = member.propose(&book, memory.shared(), payload, &mut out);
     Ok(answer.map_or_else(u8::from, |_| 0))
 }
 

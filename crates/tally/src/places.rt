@@ -98,10 +98,8 @@ pub fn judge<T: Item>(
 ) -> Result<bool, Refused>
     ensures { result ≡ judged T.Item.above T.Item.alike places.now place item.now threshold }
 {
-    if place >= places.len() {
-        return Err(Refused::NoPlace);
-    }
-    if !takes_item(&places[place], item) {
+    let held = places.get(place).ok_or(Refused::NoPlace)?;
+    if !takes_item(held, item) {
         return Err(Refused::Held);
     }
     Ok(count_with(places, place, item) == threshold)

@@ -1,23 +1,10 @@
-use Rattle.std.proofs.Common.{◌≡◌, ◌+◌, ◌*◌, ◌≤◌, length, take, sym, ◌∙◌, subst, arith, rules}
-use Rattle.wire.specs.declared.form.Form.{Form}
-use Rattle.member.specs.Memories.{lengths_in}
-use Rattle.member.specs.Shelf.{certificate_length}
-use Rattle.member.specs.Sizes.{Sized}
-use Rattle.member.proofs.Rooms.{certificate_fits}
-use Rattle.member.proofs.Signed.{at_start}
-use Rattle.wire.specs.Layouts.{timeout_words}
+use Rattle.std.proofs.Common.{◌≡◌, ℕ, List, ◌++◌, length, take, sym, ap, ◌∙◌, rules}
+use Rattle.std.proofs.lemmas.List.{take_at}
 use Rattle.member.proofs.state.Member.timer.Goals as goal
 
-pub write_timeout-length-requires : goal.write_timeout-length-requires
-write_timeout-length-requires g c =
-    let m = c.args.self.now in
-    let fits : Sized m.site (lengths_in c.args.memory (length c.args.out.now)) = subst (Sized m.site) c.lengths.ensures (c.fit.ensures.parts c.if-not-fit.false) in
-    record {
-      high = omega (arith, fits.shelves);
-      within = certificate_fits g.A.Attestor m.site.members c.of-form.result m.chain.high c.of-form.ensures fits.group;
-      tag = search rules;
-      room = fits.outgoing;
-    }
+-- a tag that was signed stands at the start of the room
+at_start : (room tag rest : List ℕ) (n k : ℕ) → n ≡ k → length tag ≡ k → room ≡ tag ++ rest → take n room ≡ tag
+at_start room tag rest n k e w is = ap (take n) is ∙ take_at tag rest n (w ∙ sym e)
 
 pub returns : goal.returns
 returns g c =
