@@ -1,23 +1,23 @@
 // One lot's way through the ledger, printed step by step.
 #![tactic(auto)]
 
-use std::alloc::Global;
 use walkthrough::chapters::{block, book, coins, damages, members, messages, tags, timeouts};
 use walkthrough::fault::Fault;
 
-fn main(rt: HostRuntime) -> Result<(), Fault> {
-    let chapters: [fn(Global) -> Result<String, Fault>; 8] = [
-        block::chapter,
-        tags::chapter,
-        book::chapter,
-        coins::chapter,
-        timeouts::chapter,
-        messages::chapter,
-        damages::chapter,
-        members::chapter,
-    ];
-    for chapter in chapters {
-        rt.println(chapter(rt.alloc())?)?;
-    }
+// Prints a chapter, unless it could not be written.
+fn show(rt: &HostRuntime, chapter: Result<String, Fault>) -> Result<(), Fault> {
+    rt.println(chapter?)?;
     Ok(())
+}
+
+fn main(rt: HostRuntime) -> Result<(), Fault> {
+    let heap = rt.alloc();
+    show(&rt, block::chapter(heap))?;
+    show(&rt, tags::chapter(heap))?;
+    show(&rt, book::chapter(heap))?;
+    show(&rt, coins::chapter(heap))?;
+    show(&rt, timeouts::chapter(heap))?;
+    show(&rt, messages::chapter(heap))?;
+    show(&rt, damages::chapter(heap))?;
+    show(&rt, members::chapter(heap))
 }
