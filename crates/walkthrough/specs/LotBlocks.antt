@@ -1,5 +1,5 @@
 -- The first block of the walk.
-use Rattle.std.specs.Prelude.{ℕ, List, replicate, Option}
+use Rattle.std.specs.Prelude.{ℕ, replicate, Option}
 use Rattle.std.specs.Option.{option_map}
 use Rattle.blocks.specs.declared.head.Head.{Head}
 use Rattle.blocks.specs.declared.rank.Kind.TheVariants.{Regular}
