@@ -22,13 +22,14 @@ pub enum ElectError {
     Excess,
 }
 
-impl ElectError {
-    /// The number under which a call that meets the error is refused.
-    pub fn number(self) -> u8
-        ensures { result ≡ refusal self }
-    {
-        match self {
-            Self::Count | Self::Unknown | Self::Repeated | Self::Excess => 2,
+/// The number under which a call that meets the error is refused.
+impl From<ElectError> for u8 {
+    ghost from_gives = { λ error number. number ≡ refusal error };
+
+    fn from(error: ElectError) -> u8 {
+        use ElectError::{Count, Excess, Repeated, Unknown};
+        match error {
+            Count | Unknown | Repeated | Excess => 2,
         }
     }
 }

@@ -1,9 +1,10 @@
 // What a call answers, and why one is refused.
 ghost use Rattle.std.specs.Prelude.{◌≡◌};
 ghost use Rattle.member.specs.Words.{refusal_number};
-ghost use Rattle.member.specs.declared.types.Refusal.TheVariants.{Unsigned};
+ghost use Rattle.member.specs.declared.types.Refusal.TheVariants.{Form, Unsigned};
 
 use attest::attestor::WillNotSign;
+use wire::reader::Malformed;
 
 // Where a member stands in its view.
 #[derive(Clone, Copy, PartialEq, Eq)]
@@ -99,5 +100,14 @@ impl From<WillNotSign> for Refusal {
 
     fn from(_: WillNotSign) -> Refusal {
         Self::Unsigned
+    }
+}
+
+// Bytes that are no message.
+impl From<Malformed> for Refusal {
+    ghost from_gives = { λ _ refusal. refusal ≡ Form };
+
+    fn from(_: Malformed) -> Refusal {
+        Self::Form
     }
 }

@@ -15,6 +15,5 @@ use wire::reader::read;
 pub fn judge(form: Form, bytes: &[u8]) -> Result<MessageKind, Refusal>
     ensures { result_map_both kind_number refusal_number result ≡ judged (read_message form bytes.now) }
 {
-    let message = read(form, bytes).or(Err(Refusal::Form))?;
-    Ok(message.kind())
+    Ok(read(form, bytes)?.kind())
 }

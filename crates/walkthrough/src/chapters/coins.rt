@@ -48,6 +48,6 @@ fn write_election<C: Coin>(
     write!(text, "  members {one} and {other} show {a} and {b}: ")?;
     match coin.elect(MEMBERS, &shares) {
         Ok(winner) => writeln!(text, "member {winner} wins"),
-        Err(error) => writeln!(text, "refusal {}", error.number()),
+        Err(error) => writeln!(text, "refusal {}", u8::from(error)),
     }
 }
