@@ -159,11 +159,8 @@ pub fn dealt(n: u8, coefficients: &[u16], member: u8) -> Option<u16>
     ensures { Deals n coefficients.now member result }
 {
     let residues = coefficients.iter().all(|value| *value <= GREATEST);
-    if residues && coefficients.len() == share_count(n) as usize && is_member(n, member) {
-        Some(value_at(coefficients, member))
-    } else {
-        None
-    }
+    let fits = residues && coefficients.len() == share_count(n) as usize && is_member(n, member);
+    fits.then(|| value_at(coefficients, member))
 }
 
 /// Values of `dealt`, from one polynomial for each view, make a sound dealing.

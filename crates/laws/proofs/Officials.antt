@@ -44,9 +44,6 @@ module _ (m : Member) (s : Statement) where
   not_this_view near other f = grind (arith, nat_tests)
 
 -- a fallback certificate under a regular or height-1 block, or in a timeout, is of an earlier view than that
-opens_below : (v : View) (s : Statement) → opens v s ≡ true → is_fallback s.kind ≡ true → s.view.0 < v.0
-opens_below v s o f = grind (arith, nat_tests)
-
 pub in_timeout : (m : Member) (v : View) (s : Statement) (broken : Bool) → ahead m v ≡ false → (not (opens v s) || broken) ≡ false → is_fallback s.kind ≡ true → s.view.0 < m.phase.view.0
 in_timeout m v s broken near broken_not f = grind (arith, nat_tests)
 

@@ -22,6 +22,7 @@ use arrayvec::ArrayVec;
 use attest::attestor::Attestor;
 use blocks::head::Head;
 use blocks::limits::{HEAD_BYTES, LAST_ROUND, PAYLOAD_MOST};
+use blocks::rank::Round;
 use blocks::statement::Statement;
 use wire::certificate::Certificate;
 use wire::form::Form;
@@ -94,7 +95,7 @@ impl Member {
         if !self.may_propose() {
             return Err(Refusal::OutOfStage);
         }
-        if next_round(self.plan().base.statement.round).0 > LAST_ROUND {
+        if next_round(self.plan().base.statement.round) > Round(LAST_ROUND) {
             return Err(Refusal::Ended);
         }
         Ok(())

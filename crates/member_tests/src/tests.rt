@@ -28,6 +28,7 @@ fn fresh_sheet(rt: HostRuntime) -> Result<(), Fail> {
     let mut sheet = [0; 256];
     let length = member.sheet(memory.table, &mut sheet)?;
     assert_eq!(rt; length, 98);
+    assert!(rt; length <= 256);
     assert!(rt; &sheet[..length] == FRESH);
     Ok(())
 }

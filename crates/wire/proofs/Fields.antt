@@ -1,9 +1,9 @@
 -- Fields, written one after another.
-use Rattle.std.proofs.Common.{◌≡◌, ℕ, ◌+◌, ◌<◌, ◌≤◌, List, [], ◌++◌, length, get_or, take, Ok, Err, Bor, sym, ap, ◌∙◌}
+use Rattle.std.proofs.Common.{◌≡◌, ℕ, ◌+◌, ◌<◌, ◌≤◌, List, [], ◌++◌, length, get_or, take, Err, Bor, sym, ap, ◌∙◌}
 use Rattle.std.specs.List.{flat_map}
 use Rattle.std.proofs.lemmas.List.{take_more, flat_map_more}
 use Rattle.std.proofs.lemmas.List.Folds.{length-flat_map-take}
-use Rattle.std.proofs.lemmas.Bool.{le-leb, lt-leb}
+use Rattle.std.proofs.lemmas.Bool.{lt-leb}
 use Rattle.blocks.proofs.Overlays.{Wrote}
 use Rattle.wire.specs.Writing.{writing, written}
 
@@ -26,7 +26,3 @@ joined_room fields i below = length-flat_map-take (λ f. f.now) fields i nothing
 -- nothing is written where there is no room
 pub refuses : (out m : List ℕ) → length out < length m → (Err (record {}) ≡ writing out m) × (out ≡ written out m)
 refuses out m short = let e = lt-leb (length m) (length out) short in (rw e, rw e)
-
--- the message where there is
-pub answers : (out m buffer : List ℕ) (at : ℕ) → length m ≤ length out → Wrote out m buffer at → (Ok at ≡ writing out m) × (buffer ≡ written out m)
-answers out m buffer at room w = let e = le-leb (length m) (length out) room in (rw e (ap Ok w.end), rw e w.bytes)

@@ -31,8 +31,7 @@ pub(crate) fn read_certificate<'a>(form: Form, part: Part<'a>) -> Option<Certifi
 {
     let (statement, count, entries) = read_said(form.members, part.bytes)?;
     let wanted = form.tags(count_for(form.members, &statement));
-    if !wanted.met_by(count, entries) {
-        return None;
-    }
-    Some(Certificate { statement, part })
+    wanted
+        .met_by(count, entries)
+        .then_some(Certificate { statement, part })
 }
