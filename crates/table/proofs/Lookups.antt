@@ -30,6 +30,12 @@ position_lookup t held id =
     let whole : length t - 0 ≡ length t = omega arith in
     position_from-zero (λ (b : Held). bytes_eq b.id id) (take held t) ∙ (looked_from t id held 0 ∙ ap (λ m. lookup_from (min held m) t 0 id) whole)
 
+-- the same for the held places as they are lent to the search
+pub held_lookup : (t : List Held) (held m : ℕ) (id : List ℕ) → m ≡ min held (length t) → position (λ (b : Held). bytes_eq b.id id) (take m t) ≡ lookup t held id
+held_lookup t held m id e =
+    let many : min m (length t) ≡ min held (length t) = omega arith in
+    position_lookup t m id ∙ ap (λ n. lookup_from n t 0 id) many
+
 -- of n places from i on, j is the first whose block has the id
 record FirstFrom (t : List Held) (id : List ℕ) (n i j : ℕ) : Type 0 where
   low : i ≤ j

@@ -8,7 +8,8 @@ use super::held::{GENESIS, Held};
 pub fn find(table: &[Held], held: usize, id: &[u8; 32]) -> Option<usize>
     ensures { result ≡ lookup table.now held id.now }
 {
-    table.iter().take(held).position(|block| block.has_id(id))
+    let places = &table[..held.min(table.len())];
+    places.iter().position(|block| block.has_id(id))
 }
 
 // The block at a place; genesis where there is no such place.
