@@ -158,8 +158,9 @@ fn value_at(coefficients: &[u16], x: u8) -> u16
 pub fn dealt(n: u8, coefficients: &[u16], member: u8) -> Option<u16>
     ensures { Deals n coefficients.now member result }
 {
-    let residues = coefficients.iter().all(|value| *value <= GREATEST);
-    let fits = residues && coefficients.len() == share_count(n) as usize && is_member(n, member);
+    let fits = coefficients.len() == share_count(n) as usize
+        && is_member(n, member)
+        && coefficients.iter().all(|value| *value <= GREATEST);
     fits.then(|| value_at(coefficients, member))
 }
 
