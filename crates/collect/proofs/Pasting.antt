@@ -71,6 +71,10 @@ left_last {old} {whole} {out} {out'} {first} {at} ys l = left_more ys [] (subst 
 pub left_none : {old whole out : List ℕ} {first at : ℕ} → Left old first whole out at [] → (out ≡ pasted old first whole) × (at ≡ first + length whole)
 left_none {old} {whole} {out} {first} {at} l = (sym (pasted_none out at) ∙ l.bytes, sym (add-zero at) ∙ l.end)
 
+-- bytes that have room are pasted
+pub pasted_whole : (old whole : List ℕ) (first : ℕ) → first + length whole ≤ length old → pasted old first whole ≡ cond (fits old first whole) (pasted old first whole) old
+pasted_whole old whole first room = sym (ap (λ b. cond b (pasted old first whole) old) (le-leb (first + length whole) (length old) room))
+
 -- two fields at the start of a buffer
 pub two_fields : (old out1 out2 : List ℕ) (at1 at2 : ℕ) (xs ys zs : List ℕ) → length (xs ++ (ys ++ zs)) ≤ length old
     → out1 ≡ cond (fits old 0 xs) (pasted old 0 xs) old → at1 ≡ cond (fits old 0 xs) (0 + length xs) 0

@@ -1,7 +1,7 @@
 // Certificates, built of the items that a tally keeps.
-ghost use Rattle.std.specs.Prelude.{◌≡◌, ℕ, ◌+◌, ◌<◌, ◌≤◌, List, ◌∷◌, length, take, Some, None, Option, nat_le};
+ghost use Rattle.std.specs.Prelude.{◌≡◌, ℕ, ◌+◌, ◌<◌, ◌≤◌, List, ◌∷◌, length, take, Some, None, Option, if◌then◌else◌, nat_le};
 ghost use Rattle.attest.specs.Limits.{tag_room};
-ghost use Rattle.blocks.specs.Layout.{pasted};
+ghost use Rattle.blocks.specs.Layout.{fits, pasted};
 ghost use Rattle.collect.specs.Items.{tail_of};
 ghost use Rattle.collect.specs.Build.{places_most, tail_most, built_bytes, certificate_of, end_at, written_at, count_at_start, written_at_start};
 
@@ -13,8 +13,24 @@ use tally::{Item, count_alike, kept_alike};
 // The most places: a member's number is its place + 1 and has one byte.
 pub(crate) const PLACES_MOST: usize = 255;
 
-// An item that adds an entry to a certificate: its member's number, then its value, if it has one, and its tag.
+// An item that adds an entry to a certificate: its member's number and, after it, a tail.
 pub trait Entered: Item {
+    // the tail, with tags of `width` bytes
+    ghost tail: { ℕ → Self → List ℕ };
+
+    // The bytes of the tail.
+    fn tail_length(&self, width: usize) -> usize
+        ensures value { result ≡ length (tail width self.now) }
+        ensures most { result ≤ tail_most };
+
+    // Writes the tail at a place, as `put` does.
+    fn put_tail(&self, width: usize, out: &mut [u8], at: usize) -> usize
+        ensures bytes { out.new ≡ (if fits out.old at (tail width self.now) then pasted out.old at (tail width self.now) else out.old) }
+        ensures end { result ≡ (if fits out.old at (tail width self.now) then at + length (tail width self.now) else at) };
+}
+
+// An item whose tail is its value, if it has one, and its tag.
+pub trait Tagged: Item {
     ghost value: { Self → Option ℕ };
 
     ghost tag: { Self → List ℕ };
@@ -26,7 +42,26 @@ pub trait Entered: Item {
         ensures { result.now ≡ tag self.now };
 }
 
-impl Entered for KeptVote {
+impl<T: Tagged> Entered for T {
+    ghost tail = { tail_of T.value T.tag };
+
+    fn tail_length(&self, width: usize) -> usize {
+        self.value().map_or(0, |_| 2) + start_of(self.tag(), width).len()
+    }
+
+    fn put_tail(&self, width: usize, out: &mut [u8], at: usize) -> usize {
+        if !has_room(out, at, self.tail_length(width)) {
+            return at;
+        }
+        let mut end = at;
+        if let Some(value) = self.value() {
+            end = put(out, at, &value.to_be_bytes());
+        }
+        put(out, end, start_of(self.tag(), width))
+    }
+}
+
+impl Tagged for KeptVote {
     ghost value = { λ _. None };
 
     ghost tag = { λ x. x.tag };
@@ -40,7 +75,7 @@ impl Entered for KeptVote {
     }
 }
 
-impl Entered for KeptTimeout {
+impl Tagged for KeptTimeout {
     ghost value = { λ _. None };
 
     ghost tag = { λ x. x.tag };
@@ -54,7 +89,7 @@ impl Entered for KeptTimeout {
     }
 }
 
-impl Entered for KeptShare {
+impl Tagged for KeptShare {
     ghost value = { λ x. Some x.value };
 
     ghost tag = { λ x. x.tag };
@@ -76,14 +111,6 @@ fn start_of(tag: &[u8; TAG_ROOM], width: usize) -> &[u8]
     &tag[..width.min(TAG_ROOM)]
 }
 
-// The bytes that follow the member in an item's entry.
-fn tail_length<T: Entered>(kept: &T, width: usize) -> usize
-    ensures value { result ≡ length (tail_of T.Entered.value T.Entered.tag width kept.now) }
-    ensures most { result ≤ tail_most }
-{
-    kept.value().map_or(0, |_| 2) + start_of(kept.tag(), width).len()
-}
-
 // The number of the member that has the place.
 pub(crate) fn number_of(place: usize) -> u8
     requires { place < places_most }
@@ -95,24 +122,21 @@ pub(crate) fn number_of(place: usize) -> u8
 // Writes the entry of an item that a place keeps to a place of the buffer, and says where it ends.
 fn put_entry<T: Entered>(place: usize, kept: &T, width: usize, out: &mut [u8], at: usize) -> usize
     requires number { place < places_most }
-    requires room { at + (1 + length (tail_of T.Entered.value T.Entered.tag width kept.now)) ≤ length out.old }
-    ensures bytes { out.new ≡ pasted out.old at ((place + 1) ∷ tail_of T.Entered.value T.Entered.tag width kept.now) }
-    ensures end { result ≡ at + (1 + length (tail_of T.Entered.value T.Entered.tag width kept.now)) }
+    requires room { at + (1 + length (T.Entered.tail width kept.now)) ≤ length out.old }
+    ensures bytes { out.new ≡ pasted out.old at ((place + 1) ∷ T.Entered.tail width kept.now) }
+    ensures end { result ≡ at + (1 + length (T.Entered.tail width kept.now)) }
 {
-    let mut end = put(out, at, &[number_of(place)]);
-    if let Some(value) = kept.value() {
-        end = put(out, end, &value.to_be_bytes());
-    }
-    put(out, end, start_of(kept.tag(), width))
+    let end = put(out, at, &[number_of(place)]);
+    kept.put_tail(width, out, end)
 }
 
 // The bytes of the entries of the kept items that are alike to this one.
 fn entries_length<T: Entered>(places: &[Option<T>], item: &T, width: usize) -> usize
     requires { length places.now ≤ places_most }
-    ensures { result ≡ length (built_bytes T.Item.alike (tail_of T.Entered.value T.Entered.tag width) item.now places.now) }
+    ensures { result ≡ length (built_bytes T.Item.alike (T.Entered.tail width) item.now places.now) }
 {
     kept_alike(places, item)
-        .map(|(_, kept)| 1 + tail_length(kept, width))
+        .map(|(_, kept)| 1 + kept.tail_length(width))
         .sum()
 }
 
@@ -132,9 +156,9 @@ fn enter_all<T: Entered>(
     at: usize,
 ) -> usize
     requires numbers { length places.now ≤ places_most }
-    requires room { at + length (built_bytes T.Item.alike (tail_of T.Entered.value T.Entered.tag width) item.now places.now) ≤ length out.old }
-    ensures end { result ≡ at + length (built_bytes T.Item.alike (tail_of T.Entered.value T.Entered.tag width) item.now places.now) }
-    ensures bytes { out.new ≡ pasted out.old at (built_bytes T.Item.alike (tail_of T.Entered.value T.Entered.tag width) item.now places.now) }
+    requires room { at + length (built_bytes T.Item.alike (T.Entered.tail width) item.now places.now) ≤ length out.old }
+    ensures end { result ≡ at + length (built_bytes T.Item.alike (T.Entered.tail width) item.now places.now) }
+    ensures bytes { out.new ≡ pasted out.old at (built_bytes T.Item.alike (T.Entered.tail width) item.now places.now) }
 {
     let mut end = at;
     for (place, kept) in kept_alike(places, item) {
@@ -152,8 +176,8 @@ pub fn write_entries<T: Entered>(
     out: &mut [u8],
     at: usize,
 ) -> Option<usize>
-    ensures end { result ≡ end_at places.now out.old at (built_bytes T.Item.alike (tail_of T.Entered.value T.Entered.tag width) item.now places.now) }
-    ensures bytes { out.new ≡ written_at places.now out.old at (built_bytes T.Item.alike (tail_of T.Entered.value T.Entered.tag width) item.now places.now) }
+    ensures end { result ≡ end_at places.now out.old at (built_bytes T.Item.alike (T.Entered.tail width) item.now places.now) }
+    ensures bytes { out.new ≡ written_at places.now out.old at (built_bytes T.Item.alike (T.Entered.tail width) item.now places.now) }
 {
     if places.len() > PLACES_MOST {
         return None;

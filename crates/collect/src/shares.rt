@@ -39,8 +39,11 @@ pub fn kept_shares(
     ensures count { result ≡ count_at_start places.now out.old (kept_shares share.now places.now) }
     ensures shares { out.new ≡ written_at_start places.now out.old (kept_shares share.now places.now) }
 {
+    if places.len() > PLACES_MOST {
+        return None;
+    }
     let count = count_alike(places, share);
-    if places.len() > PLACES_MOST || count > out.len() {
+    if count > out.len() {
         return None;
     }
     gather(places, share, out);

@@ -1,10 +1,14 @@
-use super::build::{write_certificate, write_entries};
+ghost use Rattle.std.specs.Prelude.{[], ◌∷◌};
+
+use super::build::{Entered, write_certificate, write_entries};
 use super::items::{KeptShare, KeptTimeout, KeptVote, kept};
 use super::shares::kept_shares;
+use blocks::layout::put;
 use blocks::rank::{Kind, Round, View};
 use blocks::statement::Statement;
 use coin::Share;
 use std::test::Fail;
+use tally::ByNumber;
 
 fn vote(round: u32, tag: [u8; 2]) -> Option<KeptVote> {
     let statement = Statement {
@@ -83,4 +87,40 @@ fn shares(rt: HostRuntime) -> Result<(), Fail> {
     assert_eq!(rt; (elect[1].member, elect[1].value), (3, 6));
     assert_eq!(rt; kept_shares(&places, &item, &mut elect[0..1]), None);
     Ok(())
+}
+
+// An item with a tail of its own: one byte, whatever the width of tags.
+#[derive(Clone, Copy)]
+struct Marked {
+    mark: u8,
+}
+
+impl ByNumber for Marked {
+    ghost number = { λ x. x.mark };
+
+    fn number(&self) -> u32 {
+        u32::from(self.mark)
+    }
+}
+
+impl Entered for Marked {
+    ghost tail = { λ _ x. x.mark ∷ [] };
+
+    fn tail_length(&self, _: usize) -> usize {
+        1
+    }
+
+    fn put_tail(&self, _: usize, out: &mut [u8], at: usize) -> usize {
+        put(out, at, &[self.mark])
+    }
+}
+
+// Members 1 and 3 have the mark 7, and member 2 has none.
+#[test]
+fn own_tails(rt: HostRuntime) {
+    let mark = Marked { mark: 7 };
+    let places = [Some(mark), None, Some(mark)];
+    let mut out = [0; 5];
+    assert_eq!(rt; write_entries(&places, &mark, 208, &mut out, 0), Some(4));
+    assert!(rt; out == [1, 7, 3, 7, 0]);
 }

@@ -5,7 +5,6 @@ use Rattle.std.proofs.lemmas.Iterator.Adapters.{at_most_from_yields_List, fits_f
 use borrow.Author.Tests.{tests}
 use Rattle.tally.specs.Alike.{place_and_item, still_alike}
 use Rattle.tally.specs.Walk.{kept_alike}
-use Rattle.collect.specs.Items.{tail_of}
 use Rattle.collect.proofs.Entries.{length_bytes}
 use Rattle.collect.proofs.build.entries_length.Goals as goal
 
@@ -18,7 +17,7 @@ sum-requires-clause-fits g c =
 pub returns : goal.returns
 returns g c =
     let like = g.T.Item.alike in
-    let tail = tail_of g.T.Entered.value g.T.Entered.tag c.args.width in
+    let tail = g.T.Entered.tail c.args.width in
     let all = kept_alike like c.args.item.now c.args.places.now 0 in
     let walk = ap (still_alike like) c.map.ensures.source ∙ c.kept_alike.ensures.walk in
     let total = sum_by_from_yields_List (λ met. 1 + length (tail met.1)) all c.map.result c.sum.result c.sum.ensures.ran
