@@ -46,16 +46,17 @@ impl Statement {
     pub fn read(bytes: &[u8], n: u8) -> Option<Statement>
         ensures { result ≡ read_statement n bytes.now }
     {
-        if bytes == [0; STATEMENT_BYTES].as_slice() {
-            return Some(Statement::genesis());
-        }
         let [kind, height, proposer, rest @ ..] = bytes else {
             return None;
         };
+        if *proposer == 0 {
+            return (bytes == [0; STATEMENT_BYTES].as_slice()).then(Statement::genesis);
+        }
         let (view, rest) = rest.split_first_chunk::<4>()?;
         let (round, rest) = rest.split_first_chunk::<4>()?;
+        let id = rest.try_into().ok()?;
         let kind = Kind::try_from(*kind).ok()?;
-        if !(1..=n).contains(proposer) || !kind.has_height(*height) {
+        if *proposer > n || !kind.has_height(*height) {
             return None;
         }
         Some(Statement {
@@ -64,7 +65,7 @@ impl Statement {
             proposer: *proposer,
             view: View(u32::from_be_bytes(*view)),
             round: Round(u32::from_be_bytes(*round)),
-            id: rest.try_into().ok()?,
+            id,
         })
     }
 

@@ -4,7 +4,6 @@ use Rattle.std.specs.List.{flat_map}
 use Rattle.std.proofs.lemmas.List.{take_more, flat_map_more}
 use Rattle.std.proofs.lemmas.List.Folds.{length-flat_map-take}
 use Rattle.std.proofs.lemmas.Bool.{lt-leb}
-use Rattle.blocks.proofs.Overlays.{Wrote}
 use Rattle.wire.specs.Writing.{writing, written}
 
 -- the bytes of the fields

@@ -16,6 +16,7 @@ pub(crate) struct Wanted {
 }
 
 // The byte at a place, and 0 past the end.
+#[inline(always)]
 fn byte_at(bytes: &[u8], at: usize) -> u8
     ensures { result ≡ slice_index bytes.now at }
 {
@@ -24,6 +25,7 @@ fn byte_at(bytes: &[u8], at: usize) -> u8
 
 impl Wanted {
     // Whether an entry is of a signer above `last` and up to n, and its value within the limit.
+    #[inline(always)]
     fn entry_formed(&self, last: u8, entry: &[u8]) -> bool
         ensures { result ≡ entry_formed self.now.members self.now.limit last entry.now }
     {
@@ -33,6 +35,7 @@ impl Wanted {
     }
 
     // Whether the bytes are as many entries as are wanted, their signers rising.
+    #[inline(always)]
     fn are_entries(&self, bytes: &[u8]) -> bool
         ensures { result ≡ are_entries self.now.members self.now.limit self.now.wide self.now.count bytes.now }
     {
@@ -51,6 +54,7 @@ impl Wanted {
     }
 
     // Whether the count is the one that is wanted, and the bytes after it are the entries.
+    #[inline(always)]
     pub(crate) fn met_by(&self, count: u8, bytes: &[u8]) -> bool
         ensures { result ≡ (count == self.now.count && are_entries self.now.members self.now.limit self.now.wide self.now.count bytes.now) }
     {

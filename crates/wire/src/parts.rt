@@ -14,6 +14,7 @@ pub struct Part<'a> {
 }
 
 // The statement that the bytes begin with, the byte that follows it, and the rest.
+#[inline(always)]
 pub(crate) fn read_said(n: u8, bytes: &[u8]) -> Option<(Statement, u8, &[u8])>
     ensures { MatchOption result (SaysNothing n bytes.now) (λ p. SaysFirst n bytes.now p.0 p.1 p.2.now) }
 {
@@ -23,6 +24,7 @@ pub(crate) fn read_said(n: u8, bytes: &[u8]) -> Option<(Statement, u8, &[u8])>
 }
 
 // The view that the bytes begin with, the byte that follows it, and the rest.
+#[inline(always)]
 pub(crate) fn read_viewed(bytes: &[u8]) -> Option<(View, u8, &[u8])>
     ensures { MatchOption result (length bytes.now < 5) (λ p. ViewFirst bytes.now p.0 p.1 p.2.now) }
 {

@@ -82,6 +82,7 @@ fn read_timeout<'a>(form: Form, bytes: &'a [u8]) -> Option<Message<'a>>
 }
 
 // What was gathered in a view, if it is the entries that are wanted.
+#[inline(always)]
 fn read_gathered<'a>(wanted: Wanted, bytes: &'a [u8]) -> Option<Gathered<'a>>
     ensures { option_map gathered_told result ≡ cond (gathered_formed wanted.members wanted.limit wanted.wide wanted.count bytes.now) (Some (gathered bytes.now)) None }
 {
