@@ -44,9 +44,10 @@ fn push_number<I: Integer, const N: usize>(text: &mut ArrayString<N>, n: I)
 }
 
 // A rank's view, kind and round.
-#[tactic(auto, using(std::proofs::lemmas::List::append_assoc), unfolding(crate::specs::Sheet::rank_text))]
+#[tactic(auto, using(std::proofs::lemmas::List::append_assoc, crate::proofs::Sheets::rank_short), unfolding(crate::specs::Sheet::rank_text))]
 fn rank_text(rank: Rank) -> ArrayString<RANK_BYTES>
-    ensures { result.bytes ≡ rank_text rank }
+    ensures bytes { result.bytes ≡ rank_text rank }
+    ensures most { length result.bytes ≤ 23 }
 {
     let mut text = ArrayString::new();
     push_number(&mut text, rank.view.0);
