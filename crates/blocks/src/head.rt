@@ -23,6 +23,7 @@ pub struct Head {
 
 impl Head {
     // The head that the bytes are, among n members.
+    #[inline(always)]
     pub fn read(bytes: &[u8], n: u8) -> Option<Head>
         ensures { result ≡ read_head n bytes.now }
     {

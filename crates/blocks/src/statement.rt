@@ -43,6 +43,7 @@ impl Statement {
     }
 
     // The statement that the bytes are, among n members.
+    #[inline(always)]
     pub fn read(bytes: &[u8], n: u8) -> Option<Statement>
         ensures { result ≡ read_statement n bytes.now }
     {

@@ -1,2 +1,3 @@
 pub mod Rooms
 mod Sheets
+mod Planned

@@ -127,7 +127,7 @@ impl Member {
 
     // Proposes a block with the payload, to all: as the leader, in steady, on the highest certificate; in fallback the next
     // height of the own chain. Once each.
-    #[tactic(auto, using(crate::proofs::Rooms::certificate_fits))]
+    #[tactic(auto, using(crate::proofs::Rooms::certificate_fits, crate::proofs::Planned::planned_place))]
     pub fn propose<A: Attestor>(
         &mut self,
         attestor: &A,

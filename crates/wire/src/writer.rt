@@ -15,7 +15,6 @@ use coin::share_count;
 pub struct TooShort;
 
 // What fields leave of so many bytes, if they have room there.
-#[inline(always)]
 fn room_after(fields: &[&[u8]], bytes: usize) -> Option<usize>
     ensures { MatchOption result (bytes < length (flat_map (λ f. f.now) fields.now)) (λ room. length (flat_map (λ f. f.now) fields.now) + room ≡ bytes) }
 {
@@ -27,7 +26,6 @@ fn room_after(fields: &[&[u8]], bytes: usize) -> Option<usize>
 }
 
 // Writes fields one after another at the start of the buffer, if there is room for all of them.
-#[inline(always)]
 fn write_fields(out: &mut [u8], fields: &[&[u8]]) -> Result<usize, TooShort>
     ensures answer { result ≡ writing out.old (flat_map (λ f. f.now) fields.now) }
     ensures bytes { out.new ≡ written out.old (flat_map (λ f. f.now) fields.now) }
